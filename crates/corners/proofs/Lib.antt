@@ -1,0 +1,15 @@
+pub mod Slopes
+pub mod Corners
+pub mod Winner
+pub mod Edge
+pub mod Line
+pub mod Next
+pub mod Sums
+pub mod OneWay
+pub mod Unique
+pub mod Agreement
+pub mod Entries
+pub mod Listing
+pub mod Moves
+pub mod Budget
+pub mod Merge

@@ -1,0 +1,72 @@
+-- The still's corners, merged from its blocks': the blocks with the steepest way go on together.
+-- Assumes nothing.
+use mathlib.Core.Path.{_≡_, refl}
+use mathlib.Core.List.{List, [], _∷_, _++_}
+use Prim.Native.Nat.{ℕ, _+_, _*_, _≤_, _<_}
+use native.Mathlib.Omega.{arith}
+use native.Mathlib.Decide.{decLe}
+use Rattle.corners.specs.Pair.{Pair}
+use Rattle.corners.specs.Price.{Accepted, Least, Wins}
+use Rattle.corners.specs.Still.{total, Attains}
+use Rattle.corners.specs.Corner.{Corner}
+use Rattle.corners.specs.Listed.{CornerList}
+use Rattle.corners.specs.Fits.{Fits}
+use Rattle.corners.specs.Merging.{SoFar, Stands, Goes}
+use Rattle.corners.proofs.Slopes.{slope-trans, right-pos}
+use Rattle.corners.proofs.Winner.{vertex-corner}
+use Rattle.corners.proofs.Sums.{total-least}
+use Rattle.corners.proofs.Listing.{start, step, finish}
+use Rattle.corners.proofs.Moves.{stands-run, near, goes-flat, goes-far, goes-there}
+use Rattle.corners.proofs.Budget.{edge-fits}
+
+module _ (A : ℕ → Pair → Type 0) (n : ℕ) (C : ℕ → Pair) (c d : ℕ → ℕ) {a b : ℕ} (each : (i : ℕ) → i < n → Stands (A i) a b (C i) (c i) (d i)) where
+  here : Attains A n (total C n)
+  here = record { pick = C; each = λ i l. (each i l) .corner .attained; adds = refl }
+
+  inward : Least (Attains A n) a b (total C n)
+  inward = total-least A n a b C (λ i l. (each i l) .inward)
+
+  -- The list starts where the blocks have the least bits.
+  pub merge-start : Least (Attains A n) 0 1 (total C n) → SoFar (Attains A n) [] a b (total C n)
+  merge-start h = start (Attains A n) a b (total C n) here inward h
+
+  -- The still goes on by (a′, b′), which no block's price is steeper than.
+  module _ (C′ : ℕ → Pair) {a′ b′ : ℕ} (goes : (i : ℕ) → i < n → Goes (A i) a′ b′ (C i) (c i) (d i) (C′ i)) (steep : a * b′ < b * a′) where
+    outward : Least (Attains A n) a′ b′ (total C n)
+    outward = total-least A n a′ b′ C (λ i l. near (each i l) a′ b′ steep (goes-flat (each i l) (goes i l)))
+
+    there : Attains A n (total C′ n)
+    there = record { pick = C′; each = λ i l. goes-there (each i l) (goes i l); adds = refl }
+
+    inward′ : Least (Attains A n) a′ b′ (total C′ n)
+    inward′ = total-least A n a′ b′ C′ (λ i l. goes-far (each i l) steep (goes i l))
+
+    -- One corner more is listed.
+    pub merge-step : {L : List Pair} → SoFar (Attains A n) L a b (total C n) → Accepted a′ b′ → (total C n) .bits < (total C′ n) .bits
+        → SoFar (Attains A n) (L ++ (total C n ∷ [])) a′ b′ (total C′ n)
+    merge-step S acc more = step S a′ b′ acc steep outward (total C′ n) there inward′ more
+
+    -- The budget lies between: the present corner is the answer.
+    pub merge-fits : (budget : ℕ) → (total C n) .bits ≤ budget → budget < (total C′ n) .bits → Fits (Attains A n) budget (total C n)
+    merge-fits budget h k =
+        edge-fits (vertex-corner (Attains A n) a b a′ b′ (total C n) here steep inward outward) a′ b′ (right-pos _ b a′ steep)
+        outward (total C′ n) there inward′ budget h k
+
+  -- No block's price is steeper than (r, f), nor that than (1, low): all are cheapest at (1, low).
+  module _ (low r f : ℕ) (l : a * low < b) (pos : 1 ≤ r) (top : (i : ℕ) → i < n → d i * r ≤ f * c i) where
+    merge-low : f ≤ low * r → Least (Attains A n) 1 low (total C n)
+    merge-low h = total-least A n 1 low C λ i m.
+        near (each i m) 1 low (omega arith) (slope-trans (c i) (d i) r f 1 low pos (top i m) (omega arith))
+
+    -- So before the still's corner at (1, low) is reached, the steepest price is steeper than that.
+    pub merge-steep : (P : Pair) → Wins (Attains A n) 1 low P → (total C n) .bits < P .bits → low * r < f
+    merge-steep P w k = go (decLe f (low * r))
+      where
+        go : Dec (f ≤ low * r) → low * r < f
+        go (no h) = omega arith
+        go (yes h) = absurd (omega (arith, w .fewest (total C n) here (omega (arith, merge-low h P (w .attained), w .least (total C n) here))))
+
+  -- No block has a way left: the list is complete.
+  pub merge-finish : {L : List Pair} (r : ℕ) → 1 ≤ b → 1 ≤ r → ((i : ℕ) → i < n → d i * r ≤ 0) → SoFar (Attains A n) L a b (total C n)
+      → CornerList (Attains A n) (L ++ (total C n ∷ []))
+  merge-finish r l pos top S = finish S l (merge-low 0 r 0 (omega arith) pos (λ i m. omega (arith, top i m)) (omega arith))
