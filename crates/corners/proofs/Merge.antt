@@ -14,9 +14,9 @@ use Rattle.corners.specs.Fits.{Fits}
 use Rattle.corners.specs.Merging.{SoFar, Stands, Goes}
 use Rattle.corners.proofs.Slopes.{slope-trans, right-pos}
 use Rattle.corners.proofs.Winner.{vertex-corner}
-use Rattle.corners.proofs.Sums.{total-least}
+use Rattle.corners.proofs.Sums.{total-least, sum-more}
 use Rattle.corners.proofs.Listing.{start, step, finish}
-use Rattle.corners.proofs.Moves.{stands-run, near, goes-flat, goes-far, goes-there}
+use Rattle.corners.proofs.Moves.{stands-run, near, goes-flat, goes-far, goes-there, goes-grows}
 use Rattle.corners.proofs.Budget.{edge-fits}
 
 module _ (A : ℕ → Pair → Type 0) (n : ℕ) (C : ℕ → Pair) (c d : ℕ → ℕ) {a b : ℕ} (each : (i : ℕ) → i < n → Stands (A i) a b (C i) (c i) (d i)) where
@@ -40,6 +40,10 @@ module _ (A : ℕ → Pair → Type 0) (n : ℕ) (C : ℕ → Pair) (c d : ℕ �
 
     inward′ : Least (Attains A n) a′ b′ (total C′ n)
     inward′ = total-least A n a′ b′ C′ (λ i l. goes-far (each i l) steep (goes i l))
+
+    -- Where one block moves, the still has more bits.
+    pub merge-more : (k : ℕ) → k < n → (C k) .bits < (C′ k) .bits → (total C n) .bits < (total C′ n) .bits
+    merge-more = sum-more n C C′ (λ i l. goes-grows (each i l) (goes i l))
 
     -- One corner more is listed.
     pub merge-step : {L : List Pair} → SoFar (Attains A n) L a b (total C n) → Accepted a′ b′ → (total C n) .bits < (total C′ n) .bits

@@ -9,7 +9,7 @@ use Rattle.corners.specs.Price.{Least, Wins}
 use Rattle.corners.specs.Corner.{Corner}
 use Rattle.corners.specs.Merging.{ahead, Way, Course, Course.reached, Course.short, Stands, Goes, Goes.stays, Goes.moves}
 use Rattle.corners.proofs.Slopes.{cone, parallel, turn, right-pos}
-use Rattle.corners.proofs.Corners.{apart}
+use Rattle.corners.proofs.Corners.{apart, same-corner}
 use Rattle.corners.proofs.Winner.{wins-corner, wins-strictly, wins-dearer}
 use Rattle.corners.proofs.Line.{level, line}
 
@@ -76,6 +76,10 @@ pub course-way : {A : Pair → Type 0} {low : ℕ} {H C : Pair} {c d : ℕ} (a b
 course-way a b reached l p = absurd (omega arith)
 course-way a b (short m w) l p = (w, m)
 
+-- With the bits of its goal a block has reached it.
+pub arrives : {A : Pair → Type 0} {H C : Pair} (low : ℕ) → Corner A C → Corner A H → C .bits ≡ H .bits → Course A low H C 1 low
+arrives {A} {H} {C} low c h e = rw (same-corner c h e) reached
+
 -- No block is beyond its goal.
 pub course-within : {A : Pair → Type 0} {low : ℕ} {H C : Pair} {c d : ℕ} → Course A low H C c d → C .bits ≤ H .bits
 course-within reached = omega arith
@@ -105,3 +109,7 @@ module _ {A : Pair → Type 0} {C : Pair} {a b c d : ℕ} (t : Stands A a b C c 
   pub goes-there : {a′ b′ : ℕ} {C′ : Pair} → Goes A a′ b′ C c d C′ → A C′
   goes-there (stays h) = t .corner .attained
   goes-there (moves w p) = w .corner .attained
+
+  pub goes-grows : {a′ b′ : ℕ} {C′ : Pair} → Goes A a′ b′ C c d C′ → C .bits ≤ C′ .bits
+  goes-grows (stays h) = omega arith
+  goes-grows (moves w p) = omega arith

@@ -78,8 +78,3 @@ module _ {Att : Pair → Type 0} {a b : ℕ} {P : Pair} (l : 1 ≤ a) (w : Wins 
     attained = w .attained;
     cheaper = wins-strictly (suc (P .bits)) (omega arith);
   }
-
--- More on bits: not more bits.
-pub dearer-shorter : (Att : Pair → Type 0) (a b a′ b′ : ℕ) (P Q : Pair) → a * b′ < b * a′ → Wins Att a b P → Wins Att a′ b′ Q → P .bits ≤ Q .bits
-dearer-shorter Att a b a′ b′ P Q steep p q =
-    flat-tie a b a′ b′ (P .error) (Q .error) (P .bits) (Q .bits) steep (p .least Q (q .attained)) (q .least P (p .attained))

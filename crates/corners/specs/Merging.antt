@@ -1,7 +1,9 @@
 -- For the functions that merge the blocks' corners, and not for a reader of the promises: where each block and the still stand.
 use mathlib.Core.Path.{_≡_}
+use mathlib.Core.Bool.{cond}
 use mathlib.Core.List.{List, List·Memᴰ}
-use Prim.Native.Nat.{ℕ, _+_, _*_, _-_, _≤_, _<_}
+use lib.Dec.{eqb}
+use Prim.Native.Nat.{ℕ, zero, suc, _+_, _*_, _-_, _≤_, _<_}
 use Rattle.corners.specs.Pair.{Pair}
 use Rattle.corners.specs.Price.{Least}
 use Rattle.corners.specs.Corner.{Corner}
@@ -45,3 +47,12 @@ pub record Stands (A : Pair → Type 0) (a b : ℕ) (C : Pair) (c d : ℕ) : Typ
 pub data Goes (A : Pair → Type 0) (a b : ℕ) (C : Pair) (c d : ℕ) : Pair → Type 0 where
   stays : d * a ≤ b * c → Goes A a b C c d C
   moves : Way A C c d → d * a ≡ b * c → Goes A a b C c d (ahead C c d)
+
+-- Where a block is once the still has gone on by (a, b).
+abbrev pub onward : ℕ → ℕ → Pair → ℕ → ℕ → Pair
+onward a b C c d = cond (eqb (d * a) (b * c)) (ahead C c d) C
+
+-- The bits by which the first n blocks grow.
+abbrev pub growth : ℕ → ℕ → (ℕ → ℕ) → (ℕ → ℕ) → ℕ → ℕ
+growth a b c d zero = 0
+growth a b c d (suc n) = growth a b c d n + cond (eqb (d n * a) (b * c n)) (c n) 0
