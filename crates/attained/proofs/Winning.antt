@@ -1,0 +1,71 @@
+-- The best choice at a price has the pair that wins there, and the smallest keep number for it.
+-- Assumes nothing.
+use mathlib.Core.Path.{_≡_, refl, sym, ap, _∙_}
+use mathlib.Core.List.{List}
+use Prim.Native.Nat.{ℕ, _+_, _*_, _≤_, _<_}
+use native.Mathlib.Nat.{le-antisymm}
+use native.Mathlib.Omega.{arith}
+use Rattle.block.specs.Block.{Block}
+use Rattle.block.specs.Choice.{CodableChoice, bits, error, keepNumber}
+use Rattle.block.specs.Limits.{Limits, mostBits, mostError}
+use Rattle.block.proofs.Bounds.{block-bits-most, block-error-most}
+use Rattle.price.specs.Best.{way, Before, cheaper, shorter, smaller, Best}
+use Rattle.price.specs.Best as best
+use Rattle.corners.specs.Pair.{Pair, cost}
+use Rattle.corners.specs.Price.{Wins}
+use Rattle.attained.specs.Attained.{pairOf, Attained, Smallest}
+
+module _ (B : Block) where
+  before-least : (a b : ℕ) (c o : List ℕ) → Before a b (way B c) (way B o) → cost a b (pairOf B c) ≤ cost a b (pairOf B o)
+  before-least a b c o (cheaper p) = omega arith
+  before-least a b c o (shorter p q) = omega arith
+  before-least a b c o (smaller p q r) = omega arith
+
+  before-fewest : (a b : ℕ) (c o : List ℕ) → Before a b (way B c) (way B o) → cost a b (pairOf B o) ≡ cost a b (pairOf B c) → bits B 0 c ≤ bits B 0 o
+  before-fewest a b c o (cheaper p) e = absurd (omega arith)
+  before-fewest a b c o (shorter p q) e = omega arith
+  before-fewest a b c o (smaller p q r) e = omega arith
+
+  before-keep : (a b : ℕ) (c o : List ℕ) → Before a b (way B c) (way B o) → pairOf B c ≡ pairOf B o → keepNumber c ≤ keepNumber o
+  before-keep a b c o (cheaper p) e = absurd (omega (arith, ap (cost a b) e))
+  before-keep a b c o (shorter p q) e = absurd (omega (arith, ap (λ (P : Pair). P .bits) e))
+  before-keep a b c o (smaller p q r) e = r
+
+  pub best-wins : {a b : ℕ} {c : List ℕ} → Best B a b c → Wins (Attained B) a b (pairOf B c)
+  best-wins {a} {b} {c} h = record {
+    attained = record { choice = c; codable = h .allowed; is = refl };
+    least = λ X x. rw (x .is) (before-least a b c (x .choice) (h .least (x .choice) (x .codable)));
+    fewest = λ X x e.
+        let p = ap (cost a b) (x .is) in
+        let q = ap (λ (P : Pair). P .bits) (x .is) in
+        omega (arith, before-fewest a b c (x .choice) (h .least (x .choice) (x .codable)) (sym p ∙ e));
+  }
+
+  pub best-smallest : {a b : ℕ} {c : List ℕ} → Best B a b c → Smallest B (pairOf B c) (keepNumber c)
+  best-smallest {a} {b} {c} h = record {
+    choice = c;
+    codable = h .allowed;
+    is = refl;
+    keep-is = refl;
+    least = λ o k e. before-keep a b c o (h .least o k) e;
+  }
+
+  pub smallest-unique : {P : Pair} {k l : ℕ} → Smallest B P k → Smallest B P l → k ≡ l
+  smallest-unique s t =
+      le-antisymm (omega (arith, s .least (t .choice) (t .codable) (t .is), t .keep-is))
+      (omega (arith, t .least (s .choice) (s .codable) (s .is), s .keep-is))
+
+  module _ (limits : Limits B) where
+    pub attained-bits : {P : Pair} → Attained B P → P .bits ≤ mostBits
+    attained-bits x = omega (
+      arith,
+      ap (λ (P : Pair). P .bits) (x .is),
+      block-bits-most B limits (x .choice) (x .codable .choice),
+    )
+
+    pub attained-error : {P : Pair} → Attained B P → P .error ≤ mostError
+    attained-error x = omega (
+      arith,
+      ap (λ (P : Pair). P .error) (x .is),
+      block-error-most B limits (x .choice) (x .codable .choice),
+    )
