@@ -1,0 +1,19 @@
+-- Laws of verdicts that are joined.
+-- Assumes nothing.
+use mathlib.Core.Path.{_≡_, refl}
+use mathlib.Core.Bool.{Bool, true, false}
+use Prim.Native.Nat.{ℕ}
+use native.Mathlib.Omega.{arith}
+use Rattle.answers.specs.Said.{Verdict, fine, refuse, _then_, when}
+
+pub then-fine : (v w : Verdict) → v then w ≡ fine → (v ≡ fine) × (w ≡ fine)
+then-fine fine w e = (refl, e)
+then-fine (refuse n d f) w e = absurd (let z : _≡_ {A = ℕ} 0 1 = cc in omega arith)
+
+pub then-assoc : (u v w : Verdict) → (u then v) then w ≡ u then v then w
+then-assoc fine v w = refl
+then-assoc (refuse n d e) v w = refl
+
+pub when-fine : (b : Bool) (n d e : ℕ) → when b (refuse n d e) ≡ fine → b ≡ false
+when-fine true n d f e = absurd (let z : _≡_ {A = ℕ} 0 1 = cc in omega arith)
+when-fine false n d f e = refl
