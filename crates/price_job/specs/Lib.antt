@@ -1,0 +1,2 @@
+pub mod PriceJob
+pub mod Deciding

@@ -1,0 +1,2 @@
+pub mod ThinJob
+pub mod Thinning
