@@ -25,12 +25,11 @@ pub record FirstUncodable (B : ℕ → Block) (n i : ℕ) : Type 0 where
   pub none : NoChoice (B i)
   pub earlier : (k : ℕ) → k < i → HasChoice (B k)
 
--- each of n blocks has its best choice; the keep numbers are theirs, and the pair is the sum of theirs
+-- each of n blocks has its best choice: the keep numbers are theirs, and the pair is the sum of theirs
 pub record Decided (B : ℕ → Block) (n a b : ℕ) (P : Pair) (keep : List ℕ) : Type 0 where
   pub choice : ℕ → List ℕ
   pub best : (i : ℕ) → i < n → Best (B i) a b (choice i)
   pub adds : P ≡ total (λ i. pairOf (B i) (choice i)) n
-  pub count : length keep ≡ n
   pub keep-is : (i : ℕ) → i < n → getD keep i 0 ≡ keepNumber (choice i)
 
 -- the answer r and the keep slice after the call, of what was lent
@@ -46,6 +45,6 @@ pub data PriceMeets (levels : List ℤ) (steps lengths : List ℕ) (a b : ℕ) (
       → PriceMeets levels steps lengths a b before r after
   decides : (P : Pair)
       → priceVerdict levels steps lengths a b (length before) ≡ fine
-      → Decided (blockAt levels steps lengths) (length levels / 64) a b P after
+      → Decided (blockAt levels steps lengths) (length levels / 64) a b P after → length after ≡ length before
       → saidPoint r ≡ point (P .bits) (P .error) (keptOf after)
       → PriceMeets levels steps lengths a b before r after
