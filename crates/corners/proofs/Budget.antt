@@ -1,18 +1,15 @@
 -- What a budget gives: the corner before an edge that passes it, or the last corner.
 -- Assumes nothing.
-use mathlib.Core.Path.{_≡_, refl, ap}
-use Prim.Native.Nat.{ℕ, suc, _+_, _*_, _≤_, _<_}
+use mathlib.Core.Path.{_≡_, ap}
+use Prim.Native.Nat.{ℕ, _≤_, _<_}
 use native.Mathlib.Omega.{arith}
 use native.Mathlib.Decide.{decLe}
-use native.Mathlib.Nat.{mul-le-mul-left}
-use Rattle.corners.specs.Pair.{Pair, cost}
+use Rattle.corners.specs.Pair.{Pair}
 use Rattle.corners.specs.Price.{Least, Wins}
-use Rattle.corners.specs.Still.{total, Attains}
 use Rattle.corners.specs.Corner.{Corner}
-use Rattle.corners.specs.Fits.{Fits, LeastBits}
+use Rattle.corners.specs.Fits.{Fits}
 use Rattle.corners.proofs.Winner.{wins-corner}
 use Rattle.corners.proofs.Edge.{none-between, none-behind}
-use Rattle.corners.proofs.Sums.{total-least}
 
 -- `T` fits, and no corner above it does.
 fits-below : {Att : Pair → Type 0} {T : Pair} → Corner Att T → (budget : ℕ) → T .bits ≤ budget

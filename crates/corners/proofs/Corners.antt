@@ -1,11 +1,11 @@
 -- A corner among the attainable pairs: no other has both no more bits and no more error.
 -- Assumes nothing.
 use mathlib.Core.Path.{_≡_, ap}
-use Prim.Native.Nat.{ℕ, _*_, _≤_, _<_}
+use Prim.Native.Nat.{_≤_, _<_}
 use native.Mathlib.Omega.{arith}
 use native.Mathlib.Decide.{decLe, ℕ-discrete}
 use native.Mathlib.Nat.{mul-le-mul-left, le-antisymm}
-use Rattle.corners.specs.Pair.{Pair, cost}
+use Rattle.corners.specs.Pair.{Pair}
 use Rattle.corners.specs.Corner.{Corner}
 
 pub pair-path : (P Q : Pair) → P .bits ≡ Q .bits → P .error ≡ Q .error → P ≡ Q

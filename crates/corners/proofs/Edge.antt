@@ -1,7 +1,7 @@
 -- No corner lies between two pairs that are cheapest at one price, and none behind the least error.
 -- Assumes nothing.
-use mathlib.Core.Path.{_≡_, ap, sym}
-use Prim.Native.Nat.{ℕ, _*_, _≤_, _<_}
+use mathlib.Core.Path.{_≡_, sym}
+use Prim.Native.Nat.{ℕ, _≤_, _<_}
 use native.Mathlib.Omega.{arith}
 use Rattle.corners.specs.Pair.{Pair}
 use Rattle.corners.specs.Price.{Least}

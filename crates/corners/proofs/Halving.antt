@@ -1,7 +1,7 @@
 -- What halving the range of prices rests on: more on bits gives not more bits, and what wins at both ends wins between them.
 -- Assumes nothing.
-use mathlib.Core.Path.{_≡_, sym, subst}
-use Prim.Native.Nat.{ℕ, _*_, _≤_, _<_}
+use mathlib.Core.Path.{_≡_, subst}
+use Prim.Native.Nat.{ℕ, _≤_, _<_}
 use native.Mathlib.Omega.{arith}
 use native.Mathlib.Decide.{decLe}
 use Rattle.corners.specs.Pair.{Pair}

@@ -8,7 +8,6 @@ use native.Mathlib.Decide.{decLe}
 use Rattle.corners.specs.Pair.{Pair}
 use Rattle.corners.specs.Price.{Accepted, Least, Wins}
 use Rattle.corners.specs.Still.{total, Attains}
-use Rattle.corners.specs.Corner.{Corner}
 use Rattle.corners.specs.Listed.{CornerList}
 use Rattle.corners.specs.Fits.{Fits}
 use Rattle.corners.specs.Merging.{SoFar, Stands, Goes}
@@ -16,7 +15,7 @@ use Rattle.corners.proofs.Slopes.{slope-trans, right-pos}
 use Rattle.corners.proofs.Winner.{vertex-corner}
 use Rattle.corners.proofs.Sums.{total-least, sum-more}
 use Rattle.corners.proofs.Listing.{start, step, finish}
-use Rattle.corners.proofs.Moves.{stands-run, near, goes-flat, goes-far, goes-there, goes-grows}
+use Rattle.corners.proofs.Moves.{near, goes-flat, goes-far, goes-there, goes-grows}
 use Rattle.corners.proofs.Budget.{edge-fits}
 
 module _ (A : ℕ → Pair → Type 0) (n : ℕ) (C : ℕ → Pair) (c d : ℕ → ℕ) {a b : ℕ} (each : (i : ℕ) → i < n → Stands (A i) a b (C i) (c i) (d i)) where
@@ -56,21 +55,22 @@ module _ (A : ℕ → Pair → Type 0) (n : ℕ) (C : ℕ → Pair) (c d : ℕ �
         edge-fits (vertex-corner (Attains A n) a b a′ b′ (total C n) here steep inward outward) a′ b′ (right-pos _ b a′ steep)
         outward (total C′ n) there inward′ budget h k
 
-  -- No block's price is steeper than (r, f), nor that than (1, low): all are cheapest at (1, low).
-  module _ (low r f : ℕ) (l : a * low < b) (pos : 1 ≤ r) (top : (i : ℕ) → i < n → d i * r ≤ f * c i) where
-    merge-low : f ≤ low * r → Least (Attains A n) 1 low (total C n)
-    merge-low h = total-least A n 1 low C λ i m.
+  -- No block's price is steeper than (r, f).
+  module _ (r f : ℕ) (pos : 1 ≤ r) (top : (i : ℕ) → i < n → d i * r ≤ f * c i) where
+    -- Nor is that steeper than (1, low): all blocks are cheapest at (1, low).
+    merge-low : (low : ℕ) → a * low < b → f ≤ r * low → Least (Attains A n) 1 low (total C n)
+    merge-low low l h = total-least A n 1 low C λ i m.
         near (each i m) 1 low (omega arith) (slope-trans (c i) (d i) r f 1 low pos (top i m) (omega arith))
 
-    -- So before the still's corner at (1, low) is reached, the steepest price is steeper than that.
-    pub merge-steep : (P : Pair) → Wins (Attains A n) 1 low P → (total C n) .bits < P .bits → low * r < f
-    merge-steep P w k = go (decLe f (low * r))
+    -- So (r, f) is steeper while the still has fewer bits than its corner at (1, low).
+    pub merge-steep : {low : ℕ} {P : Pair} → a * low < b → Wins (Attains A n) 1 low P → (total C n) .bits < P .bits → r * low < f
+    merge-steep {low} {P} l w k = go (decLe f (r * low))
       where
-        go : Dec (f ≤ low * r) → low * r < f
+        go : Dec (f ≤ r * low) → r * low < f
         go (no h) = omega arith
-        go (yes h) = absurd (omega (arith, w .fewest (total C n) here (omega (arith, merge-low h P (w .attained), w .least (total C n) here))))
+        go (yes h) =
+            absurd (omega (arith, w .fewest (total C n) here (omega (arith, merge-low low l h P (w .attained), w .least (total C n) here))))
 
-  -- No block has a way left: the list is complete.
-  pub merge-finish : {L : List Pair} (r : ℕ) → 1 ≤ b → 1 ≤ r → ((i : ℕ) → i < n → d i * r ≤ 0) → SoFar (Attains A n) L a b (total C n)
-      → CornerList (Attains A n) (L ++ (total C n ∷ []))
-  merge-finish r l pos top S = finish S l (merge-low 0 r 0 (omega arith) pos (λ i m. omega (arith, top i m)) (omega arith))
+    -- No fall is left: the list is complete.
+    pub merge-finish : {L : List Pair} → f ≡ 0 → 1 ≤ b → SoFar (Attains A n) L a b (total C n) → CornerList (Attains A n) (L ++ (total C n ∷ []))
+    merge-finish e l S = finish S l (merge-low 0 (omega arith) (omega arith))

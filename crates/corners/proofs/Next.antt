@@ -1,7 +1,7 @@
 -- How a block's next corner is found: search at the price of the line from the present corner to one further on.
 -- Assumes nothing.
-use mathlib.Core.Path.{_≡_, ap, sym, subst}
-use Prim.Native.Nat.{ℕ, _+_, _*_, _-_, _≤_, _<_}
+use mathlib.Core.Path.{_≡_, ap, subst}
+use Prim.Native.Nat.{ℕ, _+_, _-_, _≤_, _<_}
 use native.Mathlib.Omega.{arith}
 use native.Mathlib.Decide.{decLe}
 use Rattle.corners.specs.Pair.{Pair, cost}

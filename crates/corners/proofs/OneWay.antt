@@ -67,7 +67,7 @@ module _ (f : ℕ → Pair) (k : ℕ) (R : Pair) where
 
 module _ (A : ℕ → Pair → Type 0) (n : ℕ) where
   -- In each block a corner's pick is a corner, at the same price.
-  pub block-corner : (P : Pair) (c : Corner (Attains A n) P) (x : Attains A n P) (k : ℕ) → k < n
+  block-corner : (P : Pair) (c : Corner (Attains A n) P) (x : Attains A n P) (k : ℕ) → k < n
       → (X : Pair) → A k X → ¬ (X ≡ x .pick k) → cost (c .a) (c .b) (x .pick k) < cost (c .a) (c .b) X
   block-corner P c x k l X y m =
       let f = x .pick in

@@ -1,13 +1,13 @@
 -- The arithmetic of prices: what is not linear, each lemma on plain numbers.
 -- Assumes nothing.
-use mathlib.Core.Path.{_≡_, refl, ap}
+use mathlib.Core.Path.{_≡_, ap}
 use Prim.Native.Nat.{ℕ, zero, suc, _+_, _*_, _-_, _≤_, _<_}
 use native.Mathlib.Omega.{arith}
 use native.Mathlib.Decide.{decLe}
 use native.Mathlib.Nat.{add-le-add, mul-le-mul-left, mul-le-mul-right, lt-of-mul-lt-mul-left, lt-of-mul-lt-mul-right}
 
 -- A weighted comparison: the heavier weight decides.
-pub heavier : (m n x y : ℕ) → m < n → n * x + m * y ≤ n * y + m * x → x ≤ y
+heavier : (m n x y : ℕ) → m < n → n * x + m * y ≤ n * y + m * x → x ≤ y
 heavier m n x y l h = go (decLe x y)
   where
     go : Dec (x ≤ y) → x ≤ y
@@ -21,7 +21,7 @@ heavier m n x y l h = go (decLe x y)
         omega arith
 
 -- A positive factor goes from both sides.
-pub unscaled : (k x y : ℕ) → 1 ≤ k → k * x ≤ k * y → x ≤ y
+unscaled : (k x y : ℕ) → 1 ≤ k → k * x ≤ k * y → x ≤ y
 unscaled k x y l h = heavier 0 k x y l (omega arith)
 
 -- At equal bits the cheaper has no more error.
@@ -76,7 +76,7 @@ split-price k l m a b c d a′ b′ p q r = (
 )
 
 -- Steeper than one that is no flatter is steeper.
-pub steeper : (a b c d a′ b′ : ℕ) → 1 ≤ c → a * b′ < b * a′ → d * a′ ≤ b′ * c → a * d < b * c
+steeper : (a b c d a′ b′ : ℕ) → 1 ≤ c → a * b′ < b * a′ → d * a′ ≤ b′ * c → a * d < b * c
 steeper a b c d a′ b′ h s t =
     lt-of-mul-lt-mul-right a′ (omega (arith, mul-le-mul-right c s, mul-le-mul-left a t))
 
@@ -103,7 +103,3 @@ turn a b p q r s u v h e k l =
 -- No steeper than one that is no steeper is no steeper: runs c, falls d.
 pub slope-trans : (c d c′ d′ c″ d″ : ℕ) → 1 ≤ c′ → d * c′ ≤ d′ * c → d′ * c″ ≤ d″ * c′ → d * c″ ≤ d″ * c
 slope-trans c d c′ d′ c″ d″ h p q = unscaled c′ _ _ h (omega (arith, mul-le-mul-right c″ p, mul-le-mul-right c q))
-
--- No dearer with more bits: less error.
-pub less-error : (a b e f x y : ℕ) → 1 ≤ b → x < y → a * f + b * y ≤ a * e + b * x → f < e
-less-error a b e f x y h l k = lt-of-mul-lt-mul-left a (omega (arith, mul-le-mul-left b l))

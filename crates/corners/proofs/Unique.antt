@@ -3,12 +3,11 @@
 use mathlib.Core.Path.{_≡_, refl, ap, ap₂, sym}
 use mathlib.Core.List.{List, [], _∷_, List·Memᴰ, List·Memᴰ·head, List·Memᴰ·tail, List·Memᴰ·cases-cons, List·Memᴰ·not-nil}
 use mathlib.Core.Logic.{_⊎_, inl, inr}
-use Prim.Native.Nat.{ℕ, _≤_, _<_}
+use Prim.Native.Nat.{ℕ, _≤_}
 use native.Mathlib.Omega.{arith}
 use native.Mathlib.Nat.{le-antisymm}
 use Rattle.corners.specs.Pair.{Pair, cost}
 use Rattle.corners.specs.Price.{Wins}
-use Rattle.corners.specs.Corner.{Corner}
 use Rattle.corners.specs.Listed.{Rising, CornerList}
 use Rattle.corners.specs.Fits.{Fits, LeastBits}
 use Rattle.corners.proofs.Corners.{same-corner}
