@@ -15,5 +15,6 @@ entries-set out zero j v h = refl
 entries-set out (suc k) j v h =
     rw (getD-set-other out j (3 * k) v 0 (omega arith), getD-set-other out j (3 * k + 1) v 0 (omega arith), entries-set out k j v (omega arith))
 
-pub entries-more : (out : List ℕ) (k : ℕ) (P : Pair) → getD out (3 * k) 0 ≡ P .bits → getD out (3 * k + 1) 0 ≡ P .error → entries out (k + 1) ≡ entries out k ++ (P ∷ [])
+pub entries-more : (out : List ℕ) (k : ℕ) (P : Pair) → getD out (3 * k) 0 ≡ P .bits → getD out (3 * k + 1) 0 ≡ P .error
+    → entries out (k + 1) ≡ entries out k ++ (P ∷ [])
 entries-more out k P p q = rw (add-one, p, q)

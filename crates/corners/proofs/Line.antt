@@ -50,7 +50,8 @@ module _ {Att : Pair → Type 0} {C N : Pair} (c : Corner Att C) (n : Corner Att
           let k = next W (wins-corner (omega arith) w) (omega arith) in
           between a b (n .a) (n .b) (C .error) (N .error) (W .error) (C .bits) (N .bits) (W .bits)
           (omega arith) (omega arith) k (omega arith) (omega (arith, level a b C N run fall)) (omega (arith, level a b C N run fall))
-          (n .cheaper C (c .attained) (apart C N (omega arith))) (n .cheaper W (w .attained) (unequal a b W N (omega (arith, level a b C N run fall))))
+          (n .cheaper C (c .attained) (apart C N (omega arith)))
+          (n .cheaper W (w .attained) (unequal a b W N (omega (arith, level a b C N run fall))))
 
   pub line : Least Att a b C
   line X x = go (decLe (cost a b C) (cost a b X))

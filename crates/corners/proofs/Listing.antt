@@ -16,7 +16,8 @@ use Rattle.corners.proofs.Winner.{vertex-wins, vertex-corner}
 use Rattle.corners.proofs.Edge.{none-between, none-behind}
 
 -- What holds of the pairs of a list and of one more holds of the longer list's.
-on-snoc : (F : Pair → Type 0) (L : List Pair) (T : Pair) → ((P : Pair) → List·Memᴰ P L → F P) → F T → (P : Pair) → List·Memᴰ P (L ++ (T ∷ [])) → F P
+on-snoc : (F : Pair → Type 0) (L : List Pair) (T : Pair) → ((P : Pair) → List·Memᴰ P L → F P) → F T
+    → (P : Pair) → List·Memᴰ P (L ++ (T ∷ [])) → F P
 on-snoc F L T f t P m = go (List·Memᴰ·append-cases L m)
   where
     go : List·Memᴰ P L ⊎ List·Memᴰ P (T ∷ []) → F P
@@ -72,7 +73,8 @@ module _ {Att : Pair → Type 0} {L : List Pair} {a b : ℕ} {T : Pair} (S : SoF
       find P c k (no h) = Memᴰ·append-left (T ∷ []) (S .complete P c (omega arith))
 
 -- The last corner has the least error.
-pub finish : {Att : Pair → Type 0} {L : List Pair} {a b : ℕ} {T : Pair} → SoFar Att L a b T → 1 ≤ b → Least Att 1 0 T → CornerList Att (L ++ (T ∷ []))
+pub finish : {Att : Pair → Type 0} {L : List Pair} {a b : ℕ} {T : Pair} → SoFar Att L a b T → 1 ≤ b → Least Att 1 0 T
+    → CornerList Att (L ++ (T ∷ []))
 finish {Att} {L} {a} {b} {T} S l outward = record {
   rising = rising S 1 0 (omega arith) (omega arith) outward;
   sound = sound S 1 0 (omega arith) (omega arith) outward;

@@ -32,7 +32,8 @@ module _ {A : Pair → Type 0} {low : ℕ} {H : Pair} (h : Wins A 1 low H) where
   course-least k (short l w) = way-near k w
 
   -- A block sets out from its corner at the price (1, high).
-  pub sets-out : {C : Pair} {c d : ℕ} (high M : ℕ) → Wins A 1 high C → low ≤ high → C .bits < M → Course A low H C c d → Stands A M (high * M + 1) C c d
+  pub sets-out : {C : Pair} {c d : ℕ} (high M : ℕ) → Wins A 1 high C → low ≤ high → C .bits < M → Course A low H C c d
+      → Stands A M (high * M + 1) C c d
   sets-out {C} {c} {d} high M v l s r = record {
     corner = wins-corner (omega arith) v;
     inward = λ X x. omega (arith, wins-dearer (omega arith) v M s X x);

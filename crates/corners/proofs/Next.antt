@@ -58,7 +58,8 @@ module _ {A : Pair → Type 0} {C P : Pair} (c : Corner A C) (p : Corner A P) (m
       next-nearer (P .bits - C .bits) (C .error - P .error) (omega arith) (omega (arith, corner-falls p C (c .attained) more)) W w (apart W C n)
 
   -- It gives the bits of `C`: the block's way on leads to `P`.
-  pub way-on : {W : Pair} → Wins A (P .bits - C .bits) (C .error - P .error) W → W .bits ≡ C .bits → Way A C (P .bits - C .bits) (C .error - P .error)
+  pub way-on : {W : Pair} → Wins A (P .bits - C .bits) (C .error - P .error) W → W .bits ≡ C .bits
+      → Way A C (P .bits - C .bits) (C .error - P .error)
   way-on {W} w e = record {
     run = omega arith;
     fall = omega (arith, falls);

@@ -65,11 +65,11 @@ module _ (f : ℕ → Pair) (k : ℕ) (R : Pair) where
           let q = ap (λ (Q : Pair). Q .error) t in
           omega (arith, r (omega arith))
 
-module _ (A : ℕ → Pair → Type 0) (n : ℕ) where
-  -- In each block a corner's pick is a corner, at the same price.
-  block-corner : (P : Pair) (c : Corner (Attains A n) P) (x : Attains A n P) (k : ℕ) → k < n
+module _ {A : ℕ → Pair → Type 0} {n : ℕ} {P : Pair} (c : Corner (Attains A n) P) where
+  -- In each block a corner's pick is strictly cheapest, at the same price.
+  block-corner : (x : Attains A n P) (k : ℕ) → k < n
       → (X : Pair) → A k X → ¬ (X ≡ x .pick k) → cost (c .a) (c .b) (x .pick k) < cost (c .a) (c .b) X
-  block-corner P c x k l X y m =
+  block-corner x k l X y m =
       let f = x .pick in
       let s = after f k X n l in
       let p = ap (λ (Q : Pair). Q .bits) (x .adds) in
@@ -86,13 +86,13 @@ module _ (A : ℕ → Pair → Type 0) (n : ℕ) where
           go (no u) = rw (elsewhere (x .pick) k X i u) (x .each i h)
 
   -- So a corner is a sum in one way only.
-  pub one-way : (P : Pair) → Corner (Attains A n) P → (x y : Attains A n P) (k : ℕ) → k < n → x .pick k ≡ y .pick k
-  one-way P c x y k l = go (pair-dec (x .pick k) (y .pick k))
+  pub one-way : (x y : Attains A n P) (k : ℕ) → k < n → x .pick k ≡ y .pick k
+  one-way x y k l = go (pair-dec (x .pick k) (y .pick k))
     where
       go : Dec (x .pick k ≡ y .pick k) → x .pick k ≡ y .pick k
       go (yes e) = e
       go (no m) = absurd (omega (
         arith,
-        block-corner P c x k l (y .pick k) (y .each k l) (λ e. m (sym e)),
-        block-corner P c y k l (x .pick k) (x .each k l) m,
+        block-corner x k l (y .pick k) (y .each k l) (λ e. m (sym e)),
+        block-corner y k l (x .pick k) (x .each k l) m,
       ))

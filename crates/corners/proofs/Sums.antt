@@ -46,11 +46,13 @@ sum-grows : (n : ℕ) (f g : ℕ → Pair) → ((i : ℕ) → i < n → (f i) .b
 sum-grows zero f g h = omega arith
 sum-grows (suc n) f g h = omega (arith, sum-grows n f g (λ i l. h i (omega arith)), h n (omega arith))
 
-pub sum-more : (n : ℕ) (f g : ℕ → Pair) → ((i : ℕ) → i < n → (f i) .bits ≤ (g i) .bits) → (k : ℕ) → k < n → (f k) .bits < (g k) .bits → (total f n) .bits < (total g n) .bits
+pub sum-more : (n : ℕ) (f g : ℕ → Pair) → ((i : ℕ) → i < n → (f i) .bits ≤ (g i) .bits)
+    → (k : ℕ) → k < n → (f k) .bits < (g k) .bits → (total f n) .bits < (total g n) .bits
 sum-more zero f g h k l m = omega arith
 sum-more (suc n) f g h k l m = go (ℕ-discrete k n) (sum-more n f g (λ i l. h i (omega arith)) k)
   where
-    go : Dec (k ≡ n) → (k < n → (f k) .bits < (g k) .bits → (total f n) .bits < (total g n) .bits) → (total f (suc n)) .bits < (total g (suc n)) .bits
+    go : Dec (k ≡ n) → (k < n → (f k) .bits < (g k) .bits → (total f n) .bits < (total g n) .bits)
+        → (total f (suc n)) .bits < (total g (suc n)) .bits
     go (yes e) r =
         let p = ap (λ (i : ℕ). (f i) .bits) e in
         let q = ap (λ (i : ℕ). (g i) .bits) e in

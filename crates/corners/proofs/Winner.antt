@@ -17,7 +17,8 @@ tie a b P X l e c =
     pair-path X P e (le-antisymm (same-bits a b _ _ _ _ l e (omega arith)) (same-bits a b _ _ _ _ l (sym e) (omega arith)))
 
 -- `P` is cheapest at a steep price and at a flatter one.
-module _ (Att : Pair → Type 0) (a b a′ b′ : ℕ) (P : Pair) (att : Att P) (steep : a * b′ < b * a′) (inward : Least Att a b P) (outward : Least Att a′ b′ P) where
+module _ (Att : Pair → Type 0) (a b a′ b′ : ℕ) (P : Pair) (att : Att P) (steep : a * b′ < b * a′)
+    (inward : Least Att a b P) (outward : Least Att a′ b′ P) where
   pub vertex-wins : Wins Att a′ b′ P
   vertex-wins = record {
     attained = att;
@@ -44,7 +45,8 @@ module _ (Att : Pair → Type 0) (a b a′ b′ : ℕ) (P : Pair) (att : Att P) 
     cheaper = λ X x n. dearer X (decLe (cost (a + a′) (b + b′) X) (cost (a + a′) (b + b′) P)) x n;
   }
     where
-      dearer : (X : Pair) → Dec (cost (a + a′) (b + b′) X ≤ cost (a + a′) (b + b′) P) → Att X → ¬ (X ≡ P) → cost (a + a′) (b + b′) P < cost (a + a′) (b + b′) X
+      dearer : (X : Pair) → Dec (cost (a + a′) (b + b′) X ≤ cost (a + a′) (b + b′) P) → Att X → ¬ (X ≡ P)
+          → cost (a + a′) (b + b′) P < cost (a + a′) (b + b′) X
       dearer X (yes h) x n = absurd (n (vertex-only X x h))
       dearer X (no h) x n = omega arith
 
