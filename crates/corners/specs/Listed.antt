@@ -18,14 +18,14 @@ pub record Given (Att : Pair → Type 0) (P : Pair) : Type 0 where
   pub accepted : Accepted a b
   pub wins : Wins Att a b P
 
--- Each corner once, in rising bits, and nothing else.
+-- Each corner once, in rising bits, and nothing else; and each is given by some accepted price.
 pub record CornerList (Att : Pair → Type 0) (L : List Pair) : Type 0 where
   pub rising : Rising L
   pub sound : (P : Pair) → List·Memᴰ P L → Corner Att P
   pub complete : (P : Pair) → Corner Att P → List·Memᴰ P L
   pub given : (P : Pair) → List·Memᴰ P L → Given Att P
 
--- An entry is three numbers: bits, error, kept coefficients.
+-- An entry is three numbers: bits, error, kept coefficients. Its pair is the first two.
 abbrev pub entry : List ℕ → ℕ → Pair
 entry out k = record { bits = getD out (3 * k) 0; error = getD out (3 * k + 1) 0 }
 
