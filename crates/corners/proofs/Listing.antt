@@ -7,7 +7,8 @@ use Prim.Native.Nat.{ℕ, _*_, _≤_, _<_}
 use native.Mathlib.Omega.{arith}
 use native.Mathlib.Decide.{decLe}
 use Rattle.corners.specs.Pair.{Pair}
-use Rattle.corners.specs.Price.{Accepted, Least}
+use Rattle.price.specs.Price.{Accepted}
+use Rattle.corners.specs.Price.{Least}
 use Rattle.corners.specs.Corner.{Corner}
 use Rattle.corners.specs.Listed.{Rising, Given, CornerList}
 use Rattle.corners.specs.Merging.{SoFar}

@@ -6,7 +6,8 @@ use Prim.Native.Nat.{ℕ, _+_, _*_, _≤_, _<_}
 use native.Mathlib.Omega.{arith}
 use native.Mathlib.Decide.{decLe}
 use Rattle.corners.specs.Pair.{Pair}
-use Rattle.corners.specs.Price.{Accepted, Least, Wins}
+use Rattle.price.specs.Price.{Accepted}
+use Rattle.corners.specs.Price.{Least, Wins}
 use Rattle.corners.specs.Still.{total, Attains}
 use Rattle.corners.specs.Listed.{CornerList}
 use Rattle.corners.specs.Fits.{Fits}

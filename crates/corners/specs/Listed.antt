@@ -3,7 +3,8 @@ use mathlib.Core.List.{List, [], _∷_, _++_, List·Memᴰ}
 use lib.ListN.{getD}
 use Prim.Native.Nat.{ℕ, zero, suc, _+_, _*_, _<_}
 use Rattle.corners.specs.Pair.{Pair}
-use Rattle.corners.specs.Price.{Accepted, Wins}
+use Rattle.price.specs.Price.{Accepted}
+use Rattle.corners.specs.Price.{Wins}
 use Rattle.corners.specs.Corner.{Corner}
 
 -- Rising bits, so that no pair stands in the list twice.

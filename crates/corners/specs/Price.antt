@@ -3,12 +3,6 @@ use mathlib.Core.Path.{_≡_}
 use Prim.Native.Nat.{ℕ, _≤_}
 use Rattle.corners.specs.Pair.{Pair, cost}
 
--- The prices that are accepted.
-pub record Accepted (a b : ℕ) : Type 0 where
-  pub low : 1 ≤ a
-  pub high : a ≤ 65535
-  pub dear : b ≤ 8_000_000_000_000
-
 -- No attainable pair is cheaper than `P`.
 abbrev pub Least : (Pair → Type 0) → ℕ → ℕ → Pair → Type 0
 Least Att a b P = (X : Pair) → Att X → cost a b P ≤ cost a b X
