@@ -10,10 +10,11 @@ use Rattle.block.specs.Choice.{CodableChoice, bits, error, keepNumber}
 use Rattle.block.specs.Limits.{Limits, mostBits, mostError}
 use Rattle.block.proofs.Bounds.{block-bits-most, block-error-most}
 use Rattle.price.specs.Best.{way, Before, cheaper, shorter, smaller, Best}
-use Rattle.price.specs.Best as best
+use Rattle.price.proofs.Unique.{best-unique}
 use Rattle.corners.specs.Pair.{Pair, cost}
 use Rattle.corners.specs.Price.{Wins}
-use Rattle.attained.specs.Attained.{pairOf, Attained, Smallest}
+use Rattle.corners.proofs.Corners.{pair-path}
+use Rattle.attained.specs.Attained.{pairOf, Attained, Gives, Smallest}
 
 module _ (B : Block) where
   before-least : (a b : ℕ) (c o : List ℕ) → Before a b (way B c) (way B o) → cost a b (pairOf B c) ≤ cost a b (pairOf B o)
@@ -49,6 +50,22 @@ module _ (B : Block) where
     keep-is = refl;
     least = λ o k e. before-keep a b c o (h .least o k) e;
   }
+
+  -- what a price gives wins there, by the smallest keep number
+  pub gives-wins : {a b : ℕ} {P : Pair} {k : ℕ} → Gives B a b P k → Wins (Attained B) a b P
+  gives-wins g = rw (g .is) (best-wins (g .best))
+
+  pub gives-smallest : {a b : ℕ} {P : Pair} {k : ℕ} → Gives B a b P k → Smallest B P k
+  gives-smallest g = rw (g .is, g .keep-is) (best-smallest (g .best))
+
+  pub gives-unique : {a b : ℕ} {P Q : Pair} {k l : ℕ} → 1 ≤ a → Gives B a b P k → Gives B a b Q l → (P ≡ Q) × (k ≡ l)
+  gives-unique {a} {b} {P} {Q} h g j =
+      let s = best-unique B a b (g .choice) (j .choice) h (g .best) (j .best) in
+      let p = ap (λ (X : Pair). X .bits) (g .is) in
+      let q = ap (λ (X : Pair). X .error) (g .is) in
+      let t = ap (λ (X : Pair). X .bits) (j .is) in
+      let u = ap (λ (X : Pair). X .error) (j .is) in
+      (pair-path P Q (p ∙ s .bit ∙ sym t) (q ∙ s .err ∙ sym u), g .keep-is ∙ s .keep ∙ sym (j .keep-is))
 
   pub smallest-unique : {P : Pair} {k l : ℕ} → Smallest B P k → Smallest B P l → k ≡ l
   smallest-unique s t =

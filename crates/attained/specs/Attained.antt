@@ -1,4 +1,4 @@
--- What a block attains, the pairs of its codable choices, and the choice that stands for a pair.
+-- What a block attains, the pairs of its codable choices, what a price gives it, and the choice that stands for a pair.
 use mathlib.Core.Path.{_≡_}
 use mathlib.Core.List.{List}
 use Prim.Native.Nat.{ℕ, _≤_}
@@ -6,6 +6,7 @@ use lib.IntN.{ℤ}
 use Rattle.block.specs.Block.{Block}
 use Rattle.block.specs.Choice.{CodableChoice, bits, error, keepNumber}
 use Rattle.block.specs.Level.{blockOf, levelsOf}
+use Rattle.price.specs.Best.{Best}
 use Rattle.corners.specs.Pair.{Pair}
 
 -- block i of a still
@@ -19,6 +20,13 @@ pub record Attained (B : Block) (P : Pair) : Type 0 where
   pub choice : List ℕ
   pub codable : CodableChoice B choice
   pub is : P ≡ pairOf B choice
+
+-- at a price the best choice of the block has the pair P and this keep number
+pub record Gives (B : Block) (a b : ℕ) (P : Pair) (keep : ℕ) : Type 0 where
+  pub choice : List ℕ
+  pub best : Best B a b choice
+  pub is : P ≡ pairOf B choice
+  pub keep-is : keep ≡ keepNumber choice
 
 -- the smallest keep number among the codable choices with the pair P
 pub record Smallest (B : Block) (P : Pair) (keep : ℕ) : Type 0 where

@@ -1,1 +1,2 @@
 pub mod Attained
+pub mod Uncodable

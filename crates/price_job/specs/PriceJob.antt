@@ -5,32 +5,20 @@ use Prim.Native.Nat.{ℕ, _/_, _<_}
 use lib.IntN.{ℤ}
 use lib.ListN.{length, getD}
 use Rattle.block.specs.Block.{Block}
-use Rattle.block.specs.Choice.{CodableChoice, keepNumber}
-use Rattle.price.specs.Best.{Best, NoChoice}
 use Rattle.corners.specs.Pair.{Pair}
 use Rattle.corners.specs.Still.{total}
-use Rattle.attained.specs.Attained.{blockAt, pairOf}
+use Rattle.attained.specs.Attained.{blockAt, Gives}
+use Rattle.attained.specs.Uncodable.{FirstUncodable}
 use Rattle.answers.specs.declared.PointAnswer.{PointAnswer}
 use Rattle.answers.specs.Said.{fine, refuse, saidPoint, point, refused}
 use Rattle.still.specs.Refusals.{priceVerdict}
 use Rattle.kept.specs.Kept.{keptOf}
 
-pub record HasChoice (B : Block) : Type 0 where
-  pub choice : List ℕ
-  pub codable : CodableChoice B choice
-
--- i is the first of n blocks without a codable choice
-pub record FirstUncodable (B : ℕ → Block) (n i : ℕ) : Type 0 where
-  pub within : i < n
-  pub none : NoChoice (B i)
-  pub earlier : (k : ℕ) → k < i → HasChoice (B k)
-
--- each of n blocks has its best choice: the keep numbers are theirs, and the pair is the sum of theirs
+-- the keep numbers are those of the blocks' best choices, and P is the sum of their pairs
 pub record Decided (B : ℕ → Block) (n a b : ℕ) (P : Pair) (keep : List ℕ) : Type 0 where
-  pub choice : ℕ → List ℕ
-  pub best : (i : ℕ) → i < n → Best (B i) a b (choice i)
-  pub adds : P ≡ total (λ i. pairOf (B i) (choice i)) n
-  pub keep-is : (i : ℕ) → i < n → getD keep i 0 ≡ keepNumber (choice i)
+  pub pair : ℕ → Pair
+  pub gives : (i : ℕ) → i < n → Gives (B i) a b (pair i) (getD keep i 0)
+  pub adds : P ≡ total pair n
 
 -- the answer r and the keep slice after the call, of what was lent
 pub data PriceMeets (levels : List ℤ) (steps lengths : List ℕ) (a b : ℕ) (before : List ℕ) (r : PointAnswer) (after : List ℕ) : Type 0 where

@@ -1,2 +1,1 @@
 pub mod ThinJob
-pub mod Thinning

@@ -12,9 +12,13 @@ use Rattle.answers.specs.Said.{fine, refuse, saidKept, kept, refused}
 use Rattle.still.specs.Refusals.{thinVerdict, bitAt}
 use Rattle.kept.specs.Kept.{keptOf}
 
--- whether the level at index i of a still stays: DC, or its bit is set in the keep number of its block
+-- whether the level at position k of a block stays: DC, or its bit is set in the keep number
+abbrev pub staysAt : (keep k : ℕ) → Bool
+staysAt keep k = pick (eqb k 0) true (eqb (bitAt keep k) 1)
+
+-- the level at index i of a still
 abbrev pub stays : List ℕ → ℕ → Bool
-stays keep i = pick (eqb (i % 64) 0) true (eqb (bitAt (getD keep (i / 64) 0) (i % 64)) 1)
+stays keep i = staysAt (getD keep (i / 64) 0) (i % 64)
 
 -- the levels of which those that do not stay have become 0
 pub record Thinned (before : List ℤ) (keep : List ℕ) (after : List ℤ) : Type 0 where
