@@ -1,1 +1,2 @@
 pub mod Winning
+pub mod Uncodable
