@@ -1,0 +1,189 @@
+-- `forward::fill` meets its contract: each turn adds the node of one level to those below it.
+-- Assumes nothing.
+use Prim.Native.Nat.{_+_, _-_, _*_, _≤_, _<_}
+use native.Mathlib.Omega.{arith}
+use lib.ListN.{getD}
+use Rattle.forward.specs.Scanning.{Span, Nodes}
+use Rattle.forward.proofs.Scanning.{span-bit}
+use Rattle.forward.proofs.Node.{earliest-under, earliest-most}
+use Rattle.forward.proofs.Nodes.{total-most, index-most, nodes-start, nodes-span, nodes-reduce, nodes-next, nodes-end}
+use Rattle.forward.proofs.fill.Statement.{statement}
+use Rattle.forward.proofs.fill.Tie as tie
+
+abbrev Inv-loop : tie.InvT-loop
+Inv-loop full bits place size drop cost₀ sum₀ pred₀ a b m total i₀ cost sum pred i = (0 < i) × (i ≤ m + 1) × Nodes a b m total place size drop bits cost sum pred i
+
+abbrev μ-loop : tie.MeasureT-loop
+μ-loop full bits place size drop cost₀ sum₀ pred₀ a b m total i₀ cost sum pred i = m + 1 - i
+
+-- what is known in a turn
+abbrev start : tie.In-loop Inv-loop μ-loop → tie.Start Inv-loop μ-loop
+start t = t .before .before .before .before .before .before .before .before .before .before
+
+inside : (t : tie.In-loop Inv-loop μ-loop) → t .before .loop .i < 64
+inside t = omega (arith, start t .pre .1 .1 .0 .given .gathered .most, t .loop-test .taken)
+
+index : (t : tie.In-loop Inv-loop μ-loop)
+    → (getD (start t .args .size .now) (t .before .loop .i) 0 ≤ 10) × (0 < getD (start t .args .place .now) (t .before .loop .i) 0) × (getD (start t .args .place .now) (t .before .loop .i) 0 < 64)
+index t = index-most (start t .pre .1 .1 .0) _ (t .before .loop .inv .0) (t .loop-test .taken)
+
+span : (t : tie.In-loop Inv-loop μ-loop)
+    → Span (start t .args .price .b) (t .before .loop .i) (getD (start t .args .size .now) (t .before .loop .i) 0 * 64 + getD (start t .args .place .now) (t .before .loop .i) 0 - 1) (start t .args .place .now) (t .before .loop .cost) (t .before .loop .sum) (start t .args .bits .now)
+span t = nodes-span (start t .pre .0) (start t .pre .1 .1 .0) (t .before .loop .inv .2) (t .before .loop .inv .0) (t .loop-test .taken)
+
+-- the node that it goes on from
+from : (c : tie.After-least Inv-loop μ-loop) → c .least .result .at < c .before .before .before .before .before .before .loop .i
+from c = earliest-under (c .before .before .before .before .before .before .loop .inv .0) (c .least .ensures)
+
+cost-requires : tie.Need-cost-requires Inv-loop μ-loop
+cost-requires c κs = (c .before .before .before .before .before .before .before .pre .0, (total-most (c .before .before .before .before .before .before .before .pre .1 .1 .0), omega arith))
+
+slice-write-cost : tie.Need-slice-write-cost Inv-loop μ-loop
+slice-write-cost c = omega (arith, c .before .before .before .before .before .before .before .before .pre .1 .1 .1 .cost-long)
+
+slice-write-sum : tie.Need-slice-write-sum Inv-loop μ-loop
+slice-write-sum c = omega (arith, c .before .before .before .before .before .before .before .before .pre .1 .1 .1 .sum-long)
+
+loop-holds : tie.Need-loop-holds Inv-loop μ-loop
+loop-holds c = (omega arith, omega arith, rw (c .cost .ensures) (nodes-start (c .before .before .before .before .before .before .before .before .pre .1 .1 .1)))
+
+mul-at : tie.Need-mul-at Inv-loop μ-loop
+mul-at c = omega (arith, inside c)
+
+shared-slice-read-at : tie.Need-shared-slice-read-at Inv-loop μ-loop
+shared-slice-read-at c = omega (arith, inside (c .before), c .before .before .before .before .before .before .before .before .before .before .before .pre .1 .1 .0 .given .gathered .sizes-long)
+
+mul-at-2 : tie.Need-mul-at-2 Inv-loop μ-loop
+mul-at-2 c = omega (arith, index (c .before))
+
+mul-at-3 : tie.Need-mul-at-3 Inv-loop μ-loop
+mul-at-3 c = omega (arith, inside (c .before))
+
+shared-slice-read-at-2 : tie.Need-shared-slice-read-at-2 Inv-loop μ-loop
+shared-slice-read-at-2 c = omega (arith, inside (c .before .before), c .before .before .before .before .before .before .before .before .before .before .before .before .pre .1 .1 .0 .given .gathered .place-long)
+
+add-at : tie.Need-add-at Inv-loop μ-loop
+add-at c = omega (arith, index (c .before .before))
+
+sub-at : tie.Need-sub-at Inv-loop μ-loop
+sub-at c = omega (arith, index (c .before .before))
+
+least-requires : tie.Need-least-requires Inv-loop μ-loop
+least-requires c κs = (span (c .before .before .before .before), c .before .before .before .before .before .before .before .before .before .before .before .before .before .before .pre .1 .0)
+
+mul-sum : tie.Need-mul-sum Inv-loop μ-loop
+mul-sum c = omega (arith, from c, inside (c .before .before .before .before .before))
+
+slice-read-sum : tie.Need-slice-read-sum Inv-loop μ-loop
+slice-read-sum c = omega (arith, from (c .before), inside (c .before .before .before .before .before .before), c .before .before .before .before .before .before .before .loop .inv .2 .sum-long)
+
+mul-sum-2 : tie.Need-mul-sum-2 Inv-loop μ-loop
+mul-sum-2 c = omega (arith, from (c .before), inside (c .before .before .before .before .before .before))
+
+shared-slice-read-sum : tie.Need-shared-slice-read-sum Inv-loop μ-loop
+shared-slice-read-sum c = omega (arith, from (c .before .before), inside (c .before .before .before .before .before .before .before), c .before .before .before .before .before .before .before .before .before .before .before .before .before .before .before .before .before .pre .1 .1 .0 .given .gathered .place-long)
+
+sub-sum : tie.Need-sub-sum Inv-loop μ-loop
+sub-sum c = span (c .before .before .before .before .before .before .before) .reach _ (from (c .before .before))
+
+mul-sum-3 : tie.Need-mul-sum-3 Inv-loop μ-loop
+mul-sum-3 c = omega (arith, index (c .before .before .before .before .before .before .before))
+
+shared-slice-read-sum-2 : tie.Need-shared-slice-read-sum-2 Inv-loop μ-loop
+shared-slice-read-sum-2 c = omega (arith, span (c .before .before .before .before .before .before .before .before) .at-most, span (c .before .before .before .before .before .before .before .before) .bits-long)
+
+add-sum : tie.Need-add-sum Inv-loop μ-loop
+add-sum c = omega (arith, span-bit (span (c .before .before .before .before .before .before .before .before)) _ (from (c .before .before .before)))
+
+mul-sum-4 : tie.Need-mul-sum-4 Inv-loop μ-loop
+mul-sum-4 c = omega (arith, inside (c .before .before .before .before .before .before .before .before))
+
+slice-write-sum-2 : tie.Need-slice-write-sum-2 Inv-loop μ-loop
+slice-write-sum-2 c = omega (arith, inside (c .before .before .before .before .before .before .before .before), c .before .before .before .before .before .before .before .before .before .loop .inv .2 .sum-long)
+
+mul-pred : tie.Need-mul-pred Inv-loop μ-loop
+mul-pred c = omega (arith, inside (c .before .before .before .before .before .before .before .before))
+
+slice-write-pred : tie.Need-slice-write-pred Inv-loop μ-loop
+slice-write-pred c = omega (arith, inside (c .before .before .before .before .before .before .before .before), c .before .before .before .before .before .before .before .before .before .loop .inv .2 .pred-long)
+
+mul-reduced : tie.Need-mul-reduced Inv-loop μ-loop
+mul-reduced c = omega (arith, inside (c .before .before .before .before .before .before .before .before))
+
+shared-slice-read-reduced : tie.Need-shared-slice-read-reduced Inv-loop μ-loop
+shared-slice-read-reduced c = omega (arith, inside (c .before .before .before .before .before .before .before .before .before), c .before .before .before .before .before .before .before .before .before .before .before .before .before .before .before .before .before .before .before .pre .1 .1 .0 .given .gathered .errors-long)
+
+reduced-requires : tie.Need-reduced-requires Inv-loop μ-loop
+reduced-requires c κs =
+    (nodes-reduce (c .before .before .before .before .before .before .before .before .before .before .before .before .before .before .before .before .before .before .before .pre .0) (c .before .before .before .before .before .before .before .before .before .before .before .before .before .before .before .before .before .before .before .pre .1 .1 .0) (c .before .before .before .before .before .before .before .before .before .before .loop .inv .2) (c .before .before .before .before .before .before .before .before .before .before .loop .inv .0) (c .before .before .before .before .before .before .before .before .before .loop-test .taken) (c .before .before .before .before .least .ensures), earliest-most (c .before .before .before .before .least .ensures))
+
+mul-cost : tie.Need-mul-cost Inv-loop μ-loop
+mul-cost c = omega (arith, inside (c .before .before .before .before .before .before .before .before .before .before))
+
+slice-write-cost-2 : tie.Need-slice-write-cost-2 Inv-loop μ-loop
+slice-write-cost-2 c = omega (arith, inside (c .before .before .before .before .before .before .before .before .before .before), c .before .before .before .before .before .before .before .before .before .before .before .loop .inv .2 .cost-long)
+
+add-i : tie.Need-add-i Inv-loop μ-loop
+add-i c = omega (arith, inside (c .before .before .before .before .before .before .before .before .before .before))
+
+loop-less : tie.Need-loop-less Inv-loop μ-loop
+loop-less c = omega (arith, c .before .before .before .before .before .before .before .before .before .before .loop-test .taken)
+
+loop-again : tie.Need-loop-again Inv-loop μ-loop
+loop-again c =
+    (omega arith, omega (arith, c .before .before .before .before .before .before .before .before .before .before .loop-test .taken), nodes-next (c .before .before .before .before .before .before .before .before .before .before .before .before .before .before .before .before .before .before .before .before .pre .0) (c .before .before .before .before .before .before .before .before .before .before .before .before .before .before .before .before .before .before .before .before .pre .1 .1 .0) (c .before .before .before .before .before .before .before .before .before .before .before .loop .inv .2) (c .before .before .before .before .before .before .before .before .before .before .before .loop .inv .0) (c .before .before .before .before .before .before .before .before .before .before .loop-test .taken) (c .before .before .before .before .before .least .ensures) (c .reduced .ensures))
+
+same-length : tie.Need-same-length Inv-loop μ-loop
+same-length c = omega (arith, c .before .loop .inv .2 .cost-long, c .before .before .before .before .before .before .before .before .before .before .pre .1 .1 .1 .cost-long)
+
+same-length-2 : tie.Need-same-length-2 Inv-loop μ-loop
+same-length-2 c = omega (arith, c .before .loop .inv .2 .sum-long, c .before .before .before .before .before .before .before .before .before .before .pre .1 .1 .1 .sum-long)
+
+same-length-3 : tie.Need-same-length-3 Inv-loop μ-loop
+same-length-3 c = omega (arith, c .before .loop .inv .2 .pred-long, c .before .before .before .before .before .before .before .before .before .before .pre .1 .1 .1 .pred-long)
+
+returns : tie.Need-returns Inv-loop μ-loop
+returns c = nodes-end (c .before .loop .inv .2) (c .before .loop .inv .1) (c .loop-test .left)
+
+pub fill-spec : {M : Type 1} → statement M
+fill-spec =
+    tie.close
+    (tie.spec
+    Inv-loop
+    μ-loop
+    cost-requires
+    slice-write-cost
+    slice-write-sum
+    loop-holds
+    mul-at
+    shared-slice-read-at
+    mul-at-2
+    mul-at-3
+    shared-slice-read-at-2
+    add-at
+    sub-at
+    least-requires
+    mul-sum
+    slice-read-sum
+    mul-sum-2
+    shared-slice-read-sum
+    sub-sum
+    mul-sum-3
+    shared-slice-read-sum-2
+    add-sum
+    mul-sum-4
+    slice-write-sum-2
+    mul-pred
+    slice-write-pred
+    mul-reduced
+    shared-slice-read-reduced
+    reduced-requires
+    mul-cost
+    slice-write-cost-2
+    add-i
+    loop-less
+    loop-again
+    same-length
+    same-length-2
+    same-length-3
+    returns)

@@ -1,0 +1,4 @@
+pub mod Decision
+pub mod Given
+pub mod Chain
+pub mod Scanning
