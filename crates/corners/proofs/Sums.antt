@@ -58,3 +58,11 @@ sum-more (suc n) f g h k l m = go (ℕ-discrete k n) (sum-more n f g (λ i l. h 
         let q = ap (λ (i : ℕ). (g i) .bits) e in
         omega (arith, sum-grows n f g (λ i l. h i (omega arith)))
     go (no u) r = omega (arith, r (omega arith) m, h n (omega arith))
+
+-- Sums of equal pairs are equal.
+pub total-same : (f g : ℕ → Pair) (n : ℕ) → ((i : ℕ) → i < n → f i ≡ g i) → total f n ≡ total g n
+total-same f g zero h = refl
+total-same f g (suc n) h =
+    let s = total-same f g n (λ i l. h i (omega arith)) in
+    let e = h n (omega arith) in
+    cc

@@ -10,6 +10,7 @@ use lib.Seq.{ext-getD}
 use Rattle.block.specs.Block.{Block}
 use Rattle.corners.specs.Pair.{Pair}
 use Rattle.corners.specs.Still.{total}
+use Rattle.corners.proofs.Sums.{total-same}
 use Rattle.attained.specs.Attained.{blockAt, Gives}
 use Rattle.attained.specs.Uncodable.{FirstUncodable}
 use Rattle.attained.proofs.Winning.{gives-unique}
@@ -18,16 +19,9 @@ use Rattle.answers.specs.declared.PointAnswer.{PointAnswer}
 use Rattle.answers.specs.Said.{fine, saidPoint, point, refused}
 use Rattle.answers.proofs.Same.{point-same}
 use Rattle.still.specs.Refusals.{priceVerdict}
+use Rattle.still.proofs.Fine.{price-verdict-fine}
 use Rattle.kept.specs.Kept.{keptOf}
-use Rattle.price_job.specs.PriceJob.{Decided, PriceMeets, refuses, uncodable, decides}
-
--- sums of equal pairs are equal
-total-same : (f g : ℕ → Pair) (n : ℕ) → ((i : ℕ) → i < n → f i ≡ g i) → total f n ≡ total g n
-total-same f g zero h = refl
-total-same f g (suc n) h =
-    let s = total-same f g n (λ i l. h i (omega arith)) in
-    let e = h n (omega arith) in
-    cc
+use Rattle.price_job.specs.PriceJob.{Decided, Priced, uncodable, decides, PriceMeets, refuses, prices}
 
 module _ {B : ℕ → Block} {n a b : ℕ} (low : 1 ≤ a) where
   decided-pair : {P Q : Pair} {x y : List ℕ} → Decided B n a b P x → Decided B n a b Q y → P ≡ Q
@@ -40,3 +34,21 @@ module _ {B : ℕ → Block} {n a b : ℕ} (low : 1 ≤ a) where
 
   decided-codable : {P : Pair} {x : List ℕ} {i : ℕ} → Decided B n a b P x → FirstUncodable B n i → ⊥
   decided-codable {i = i} p u = let g = p .gives i (u .within) in u .none (g .choice) (g .best .allowed)
+
+  priced-unique : {before x y : List ℕ} {r s : PointAnswer} → length before ≡ n → Priced B n a b before r x → Priced B n a b before s y → (r ≡ s) × (x ≡ y)
+  priced-unique {r = r} {s = s} l (uncodable i u p q) (uncodable j v o k) =
+      let e = uncodable-unique u v in (point-same r s (cc), cc)
+  priced-unique l (uncodable i u p q) (decides P d m o) = absurd (decided-codable d u)
+  priced-unique l (decides P d m o) (uncodable i u p q) = absurd (decided-codable d u)
+  priced-unique {r = r} {s = s} l (decides P d m o) (decides Q f k p) =
+      let e = decided-keep d f (m ∙ l) (k ∙ l) in
+      let g = decided-pair d f in
+      (point-same r s (cc), e)
+
+pub unique : {levels : List ℤ} {steps lengths : List ℕ} {a b : ℕ} {before x y : List ℕ} {r s : PointAnswer}
+    → PriceMeets levels steps lengths a b before r x → PriceMeets levels steps lengths a b before s y → (r ≡ s) × (x ≡ y)
+unique {r = r} {s = s} (refuses n d e v p q) (refuses m f g w o k) = (point-same r s (cc), cc)
+unique {r = r} {s = s} (refuses n d e v p q) (prices w t) = (point-same r s (cc), cc)
+unique {r = r} {s = s} (prices v t) (refuses m f g w o k) = (point-same r s (cc), cc)
+unique {levels} {steps} {lengths} {a} {b} {before} (prices v t) (prices w u) =
+    let f = price-verdict-fine levels steps lengths a b (length before) v in priced-unique (f .1 .a-low) (f .2) t u

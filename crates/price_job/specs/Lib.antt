@@ -1,2 +1,1 @@
 pub mod PriceJob
-pub mod Deciding

@@ -20,19 +20,19 @@ pub record Decided (B : ℕ → Block) (n a b : ℕ) (P : Pair) (keep : List ℕ
   pub gives : (i : ℕ) → i < n → Gives (B i) a b (pair i) (getD keep i 0)
   pub adds : P ≡ total pair n
 
--- the answer r and the keep slice after the call, of what was lent
+-- the answer r and the keep slice after the call, where no check refuses: 7, or every block is decided
+pub data Priced (B : ℕ → Block) (n a b : ℕ) (before : List ℕ) (r : PointAnswer) (after : List ℕ) : Type 0 where
+  uncodable : (i : ℕ) → FirstUncodable B n i → saidPoint r ≡ refused 7 i 0 → after ≡ before → Priced B n a b before r after
+  decides : (P : Pair) → Decided B n a b P after → length after ≡ length before
+      → saidPoint r ≡ point (P .bits) (P .error) (keptOf after)
+      → Priced B n a b before r after
+
+-- the same for whatever is lent
 pub data PriceMeets (levels : List ℤ) (steps lengths : List ℕ) (a b : ℕ) (before : List ℕ) (r : PointAnswer) (after : List ℕ) : Type 0 where
   refuses : (number first second : ℕ)
       → priceVerdict levels steps lengths a b (length before) ≡ refuse number first second
       → saidPoint r ≡ refused number first second → after ≡ before
       → PriceMeets levels steps lengths a b before r after
-  uncodable : (i : ℕ)
-      → priceVerdict levels steps lengths a b (length before) ≡ fine
-      → FirstUncodable (blockAt levels steps lengths) (length levels / 64) i
-      → saidPoint r ≡ refused 7 i 0 → after ≡ before
-      → PriceMeets levels steps lengths a b before r after
-  decides : (P : Pair)
-      → priceVerdict levels steps lengths a b (length before) ≡ fine
-      → Decided (blockAt levels steps lengths) (length levels / 64) a b P after → length after ≡ length before
-      → saidPoint r ≡ point (P .bits) (P .error) (keptOf after)
+  prices : priceVerdict levels steps lengths a b (length before) ≡ fine
+      → Priced (blockAt levels steps lengths) (length levels / 64) a b before r after
       → PriceMeets levels steps lengths a b before r after

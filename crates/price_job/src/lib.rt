@@ -4,68 +4,55 @@ use answers::Kind;
 use answers::Point;
 use answers::PointAnswer;
 use answers::Refusal;
-use forward::Decision;
-use price::Bits;
-use price::Error;
 use price::Price;
+use winners::Outcome;
 ghost use mathlib.Core.Path.{_≡_};
-ghost use Prim.Native.Nat.{_≤_};
+ghost use Prim.Native.Nat.{_/_};
 ghost use lib.ListN.{length};
-ghost use Rattle.price_job.specs.PriceJob.{PriceMeets};
-ghost use Rattle.price_job.specs.Deciding.{Sound, Outcomes, Answers};
+ghost use Rattle.price.specs.Price.{Accepted};
+ghost use Rattle.attained.specs.Attained.{blockAt};
+ghost use Rattle.still.specs.Sound.{Sound};
+ghost use Rattle.price_job.specs.PriceJob.{Priced, PriceMeets};
 
-// Whether all blocks are decided, with their bits and error together, or the first that has no codable choice.
-pub enum Outcome {
-    All(Bits, Error),
-    Uncodable(usize),
+// The keep numbers are stored once every block is decided.
+fn decide(levels: &[i16], steps: &[u8], lengths: &[u8], price: Price, keep: &mut [u64]) -> PointAnswer
+    requires still { ⌜ Sound (now levels) (now steps) (now lengths) (length (now levels) / 64) ⌝ }
+    requires price { ⌜ Accepted (price .a) (price .b) ⌝ }
+    requires room { ⌜ length (now keep) ≡ length (now levels) / 64 ⌝ }
+    ensures { λ r. ⌜ Priced (blockAt (now (levels .entry)) (now (steps .entry)) (now (lengths .entry))) (length (now (levels .entry)) / 64) (price .a) (price .b) (now (keep .entry)) r (now (keep .exit)) ⌝ }
+{
+    let mut bits = [0u64; 1024];
+    let mut error = [0u64; 1024];
+    let mut chosen = [0u64; 1024];
+    match winners::winners(levels, steps, lengths, price, &mut bits, &mut error, &mut chosen) {
+        Outcome::Uncodable(i) => PointAnswer::Refused(Refusal {
+            kind: Kind::Uncodable,
+            first: i as u64,
+            second: 0,
+        }),
+        Outcome::All(b, e) => {
+            copy::copy(&chosen, keep);
+            PointAnswer::Point(Point {
+                bits: b,
+                error: e,
+                kept: kept::kept(keep),
+            })
+        }
+    }
 }
 
-// Decides the blocks one after the other. Their keep numbers stay here until all are known.
-fn decide_blocks(
+pub fn price(
     levels: &[i16],
     steps: &[u8],
-    price: Price,
-    full: bool,
-    bits: &[u64],
+    lengths: &[u8],
+    a: u64,
+    b: u64,
     keep: &mut [u64],
-) -> Outcome
-    requires { ⌜ Sound (now levels) (now steps) price full (now bits) (now keep) ⌝ }
-    ensures { λ r. ⌜ Outcomes (now (levels .entry)) (now (steps .entry)) price (now (bits .entry)) (now (keep .exit)) r ⌝ }
+) -> PointAnswer
+    ensures { λ r. ⌜ PriceMeets (now (levels .entry)) (now (steps .entry)) (now (lengths .entry)) a b (now (keep .entry)) r (now (keep .exit)) ⌝ }
 {
-    let mut place = [0usize; 64];
-    let mut size = [0usize; 64];
-    let mut drop = [0u64; 64];
-    let mut cost = [0u64; 64];
-    let mut sum = [0u64; 64];
-    let mut pred = [0usize; 64];
-    let n = levels.len() / 64;
-    let mut total_bits = 0u64;
-    let mut total_error = 0u64;
-    let mut i = 0;
-    while i < n {
-        match search::decide(
-            &levels[64 * i..64 * i + 64],
-            steps,
-            price,
-            full,
-            bits,
-            &mut place,
-            &mut size,
-            &mut drop,
-            &mut cost,
-            &mut sum,
-            &mut pred,
-        ) {
-            Decision::Nothing => {
-                return Outcome::Uncodable(i);
-            }
-            Decision::Best(c) => {
-                total_bits += c.bits.0;
-                total_error += c.error.0;
-                keep[i] = c.keep;
-            }
-        }
-        i += 1;
+    match still::check_price(levels, steps, lengths, a, b, keep.len()) {
+        Checked::Refused(r) => PointAnswer::Refused(r),
+        Checked::Fine => decide(levels, steps, lengths, Price { a, b }, keep),
     }
-    Outcome::All(Bits(total_bits), Error(total_error))
 }
