@@ -1,13 +1,13 @@
 -- What a packet holds: how many of each, where each stands, and within which bounds.
 -- Assumes nothing.
-use mathlib.Core.Path.{_≡_, refl, sym, ap, _∙_}
+use mathlib.Core.Path.{_≡_, refl, ap, _∙_}
 use mathlib.Core.Bool.{Bool, true, false, _&&_}
-use mathlib.Core.List.{List, map}
+use mathlib.Core.List.{List}
 use Prim.Native.Nat.{ℕ, zero, suc, _+_, _-_, _*_, _≤_, _<_}
 use native.Mathlib.Nat.{mul-suc}
 use native.Mathlib.Omega.{arith}
 use lib.Dec.{eqb, leb, ltb}
-use lib.IntN.{ℤ, pos, negsuc, _-ℤ_}
+use lib.IntN.{pos, negsuc, _-ℤ_}
 use lib.ListN.{length, getD, length-map, List·getD-map}
 use lib.Signed.{mag}
 use borrow.Author.Tests.{eqb-true, ltb-true, ltb-false, lt-ltb}
@@ -32,9 +32,9 @@ pub negative : (n : ℕ) → n < 4096 → pos n -ℤ pos 4096 ≡ negsuc (4095 -
 negative n h = simp (lt-ltb n 4096 h) (ap negsuc (omega arith))
 
 -- from -2,048 to 2,047: `mag` takes -1 for 0, -2 for 1 and so on
-level-within : (n : ℕ) → n < 4096 → mag (twosComplement n) < 2048
+complement-within : (n : ℕ) → n < 4096 → mag (twosComplement n) < 2048
 unfolding twosComplement
-level-within n h = go (ltb n 2048) refl
+complement-within n h = go (ltb n 2048) refl
   where
     go : (b : Bool) → ltb n 2048 ≡ b → mag (pick b (pos n) (pos n -ℤ pos 4096)) < 2048
     go true e = ltb-true n 2048 e
@@ -74,7 +74,7 @@ module _ (packet : List ℕ) where
   levels-at i h = List·getD-map twosComplement (fields packet levelsAt 12 (64 * packedBlocks packet)) i 0 ∙ ap twosComplement (fields-at packet levelsAt 12 (64 * packedBlocks packet) i h)
 
   pub levels-within : (i : ℕ) → i < 64 * packedBlocks packet → mag (getD (packedLevels packet) i (pos 0)) < 2048
-  levels-within i h = rw (levels-at i h) (level-within (field packet (levelsAt + 12 * i) 12) (field-below packet (levelsAt + 12 * i) 12))
+  levels-within i h = rw (levels-at i h) (complement-within (field packet (levelsAt + 12 * i) 12) (field-below packet (levelsAt + 12 * i) 12))
 
   pub fine-long : packetVerdict packet ≡ fine → length packet ≡ 226 + 96 * packedBlocks packet
   unfolding packetVerdict wellPacked

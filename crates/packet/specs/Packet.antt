@@ -1,6 +1,6 @@
 -- A packed still: its bit fields, the levels, steps and lengths that they hold, and when it is refused.
 use mathlib.Core.Path.{_≡_}
-use mathlib.Core.Bool.{Bool, true, false, _&&_}
+use mathlib.Core.Bool.{Bool, _&&_}
 use mathlib.Core.List.{List, [], _∷_, map}
 use Prim.Native.Nat.{ℕ, zero, suc, _+_, _-_, _*_, _/_, _%_, _^_}
 use lib.Dec.{eqb, ltb, leb}
@@ -52,7 +52,7 @@ packedLengths packet = fields packet lengthsAt 5 256
 unfoldable pub packedLevels : List ℕ → List ℤ
 packedLevels packet = map twosComplement (fields packet levelsAt 12 (64 * packedBlocks packet))
 
--- version 1, and as long as its own number of blocks asks for
+-- its first two bytes are there, it is of version 1, and it is as long as its own number of blocks asks for
 unfoldable pub wellPacked : List ℕ → Bool
 wellPacked packet = leb 2 (length packet) && eqb (packedVersion packet) 1 && eqb (length packet) (226 + 96 * packedBlocks packet)
 
@@ -65,3 +65,9 @@ pub record Room (packet : List ℕ) (levels : List ℤ) (steps lengths : List �
   pub levels-long : length levels ≡ 64 * packedBlocks packet
   pub steps-long : length steps ≡ 64
   pub lengths-long : length lengths ≡ 256
+
+-- what the lent slices hold afterwards
+pub record Unpacked (packet : List ℕ) (levels : List ℤ) (steps lengths : List ℕ) : Type 0 where
+  pub levels-are : levels ≡ packedLevels packet
+  pub steps-are : steps ≡ packedSteps packet
+  pub lengths-are : lengths ≡ packedLengths packet

@@ -6,11 +6,14 @@ ghost use Prim.Native.Nat.{_+_, _*_, _/_, _%_, _≤_, _<_};
 ghost use lib.IntN.{pos};
 ghost use lib.ListN.{length, getD};
 ghost use Rattle.answers.specs.Said.{fine, saidCheck};
-ghost use Rattle.packet.specs.Packet.{field, packetVerdict, packedBlocks, packedSteps, packedLengths, packedLevels, twosComplement, Room};
+ghost use Rattle.packet.specs.Packet.{field, packetVerdict, packedBlocks, packedSteps, packedLengths, packedLevels, twosComplement, Room, Unpacked};
 
-const STEPS_AT: usize = 2;
-const LENGTHS_AT: usize = 528;
-const LEVELS_AT: usize = 1808;
+// The first bit of the steps, of the lengths and of the levels.
+const STEPS_AT: usize = 8 + 8;
+
+const LENGTHS_AT: usize = STEPS_AT + 64 * 8;
+
+const LEVELS_AT: usize = LENGTHS_AT + 256 * 5;
 
 // Whether the packet is of version 1 and as long as its own number of blocks asks for.
 pub fn check(packet: &[u8]) -> Checked
@@ -40,7 +43,7 @@ pub fn blocks(packet: &[u8]) -> usize
 // Everything that the packet holds.
 pub fn unpack(packet: &[u8], levels: &mut [i16], steps: &mut [u8], lengths: &mut [u8])
     requires { ⌜ Room (now packet) (now levels) (now steps) (now lengths) ⌝ }
-    ensures { λ _. ⌜ (now (levels .exit) ≡ packedLevels (now (packet .entry))) × (now (steps .exit) ≡ packedSteps (now (packet .entry))) × (now (lengths .exit) ≡ packedLengths (now (packet .entry))) ⌝ }
+    ensures { λ _. ⌜ Unpacked (now (packet .entry)) (now (levels .exit)) (now (steps .exit)) (now (lengths .exit)) ⌝ }
 {
     unpack_steps(packet, steps);
     unpack_lengths(packet, lengths);
@@ -55,11 +58,12 @@ fn unpack_steps(packet: &[u8], steps: &mut [u8])
 {
     let mut i = 0;
     while i < 64 {
-        steps[i] = packet[STEPS_AT + i];
+        steps[i] = packet[STEPS_AT / 8 + i];
         i += 1;
     }
 }
 
+// Lengths run across the bytes.
 fn unpack_lengths(packet: &[u8], lengths: &mut [u8])
     requires { ⌜ packetVerdict (now packet) ≡ fine ⌝ }
     requires { ⌜ length (now lengths) ≡ 256 ⌝ }
@@ -87,6 +91,7 @@ fn unpack_levels(packet: &[u8], levels: &mut [i16])
     }
 }
 
+// Level i of the still.
 fn read_level(packet: &[u8], i: usize) -> i16
     requires { ⌜ packetVerdict (now packet) ≡ fine ⌝ }
     requires { ⌜ i < 64 * packedBlocks (now packet) ⌝ }

@@ -11,10 +11,6 @@ use Rattle.packet.proofs.Window.{byte-is-field}
 use Rattle.packet.proofs.Packed.{blocks-most}
 use Rattle.packet.proofs.check.Statement.{statement}
 use Rattle.packet.proofs.check.Tie as tie
-use Rattle.packet.proofs.check.Reads as reads
-use Rattle.packet.proofs.check.Lts as lts
-use Rattle.answers.proofs.refused.Reads as refused-reads
-use Rattle.packet.proofs.blocks.Reads as blocks-reads
 
 refused-requires : tie.Need-refused-requires
 refused-requires c κs = search needs

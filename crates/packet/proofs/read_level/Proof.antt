@@ -1,7 +1,6 @@
 -- `packet::read_level` meets its contract: a level lies within two bytes of the packet.
 -- Assumes nothing.
-use mathlib.Core.Path.{_≡_, sym, ap, _∙_}
-use Prim.Native.Nat.{ℕ, _+_, _*_}
+use mathlib.Core.Path.{sym, ap, _∙_}
 use native.Mathlib.Omega.{arith}
 use Rattle.block.proofs.Level.{back}
 use Rattle.packet.specs.Packet.{twosComplement}
@@ -20,8 +19,7 @@ read-field-requires : tie.Need-read-field-requires
 read-field-requires c κs = omega (arith, fine-long (c .before .args .packet .now) (c .before .pre .0))
 
 level-of-requires : tie.Need-level-of-requires
-level-of-requires c κs =
-    omega (arith, c .read-field .ensures, field-below (c .before .before .args .packet .now) (1808 + 12 * c .before .before .args .i) 12)
+level-of-requires c κs = rw (c .read-field .ensures) (field-below _ _ 12)
 
 returns : tie.Need-returns
 returns c =

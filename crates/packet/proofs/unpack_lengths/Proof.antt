@@ -1,7 +1,7 @@
 -- `packet::unpack_lengths` meets its contract: each field that is stored is the next length.
 -- Assumes nothing.
-use mathlib.Core.Path.{_≡_, sym, _∙_}
-use Prim.Native.Nat.{ℕ, _+_, _*_, _-_, _<_}
+use mathlib.Core.Path.{sym, _∙_}
+use Prim.Native.Nat.{_-_, _<_}
 use native.Mathlib.Omega.{arith}
 use borrow.Author.Needs.{needs}
 use Rattle.packet.specs.Packet.{packedLengths}
@@ -10,9 +10,6 @@ use Rattle.packet.proofs.Packed.{fine-long, lengths-at, lengths-long, b
 use Rattle.packet.proofs.Filled.{Filled, begun, stored, done}
 use Rattle.packet.proofs.unpack_lengths.Statement.{statement}
 use Rattle.packet.proofs.unpack_lengths.Tie as tie
-use Rattle.packet.proofs.unpack_lengths.Reads as reads
-use Rattle.packet.proofs.unpack_lengths.Lts as lts
-use Rattle.packet.proofs.read_field.Reads as read-field-reads
 
 abbrev Inv-loop : tie.InvT-loop
 Inv-loop packet lengths₀ i₀ lengths i = Filled 0 (packedLengths packet) lengths 256 i
@@ -35,8 +32,7 @@ read-field-requires c κs =
     omega (arith, fine-long (s .args .packet .now) (s .pre .0), blocks-least (s .args .packet .now))
 
 cast-lengths : tie.Need-cast-lengths Inv-loop μ-loop
-cast-lengths c =
-    omega (arith, c .read-field .ensures, field-below (c .before .before .before .before .before .args .packet .now) (528 + 5 * c .before .before .loop .i) 5)
+cast-lengths c = let h : c .read-field .result < 32 = rw (c .read-field .ensures) (field-below _ _ 5) in omega arith
 
 slice-write-lengths : tie.Need-slice-write-lengths Inv-loop μ-loop
 slice-write-lengths c = search needs

@@ -1,7 +1,7 @@
 -- `packet::unpack_levels` meets its contract: a turn stores the next two levels.
 -- Assumes nothing.
-use mathlib.Core.Path.{_≡_, subst, _∙_}
-use Prim.Native.Nat.{ℕ, _+_, _*_, _-_, _≤_, _<_}
+use mathlib.Core.Path.{_≡_, _∙_}
+use Prim.Native.Nat.{_+_, _*_, _-_, _<_}
 use native.Mathlib.Omega.{arith}
 use lib.IntN.{pos}
 use lib.ListN.{length-set}
@@ -12,9 +12,6 @@ use Rattle.packet.proofs.Packed.{blocks-most, levels-long}
 use Rattle.packet.proofs.Filled.{Filled, begun, stored, done}
 use Rattle.packet.proofs.unpack_levels.Statement.{statement}
 use Rattle.packet.proofs.unpack_levels.Tie as tie
-use Rattle.packet.proofs.unpack_levels.Reads as reads
-use Rattle.packet.proofs.unpack_levels.Lts as lts
-use Rattle.packet.proofs.read_level.Reads as read-level-reads
 
 abbrev Inv-loop : tie.InvT-loop
 Inv-loop packet levels₀ pairs i₀ levels i = Filled (pos 0) (packedLevels packet) levels (64 * packedBlocks packet) (2 * i)

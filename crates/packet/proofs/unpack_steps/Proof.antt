@@ -1,17 +1,15 @@
 -- `packet::unpack_steps` meets its contract: each byte that is stored is the next step.
 -- Assumes nothing.
-use mathlib.Core.Path.{_≡_, sym, _∙_}
-use Prim.Native.Nat.{ℕ, _+_, _*_, _-_, _<_}
+use mathlib.Core.Path.{sym, _∙_}
+use Prim.Native.Nat.{_+_, _*_, _-_, _<_}
 use native.Mathlib.Omega.{arith}
 use borrow.Author.Needs.{needs}
-use Rattle.packet.specs.Packet.{packedSteps}
+use Rattle.packet.specs.Packet.{stepsAt, packedSteps}
 use Rattle.packet.proofs.Window.{byte-is-field}
 use Rattle.packet.proofs.Packed.{fine-long, steps-at, steps-long}
 use Rattle.packet.proofs.Filled.{Filled, begun, stored, done}
 use Rattle.packet.proofs.unpack_steps.Statement.{statement}
 use Rattle.packet.proofs.unpack_steps.Tie as tie
-use Rattle.packet.proofs.unpack_steps.Reads as reads
-use Rattle.packet.proofs.unpack_steps.Lts as lts
 
 abbrev Inv-loop : tie.InvT-loop
 Inv-loop packet steps₀ i₀ steps i = Filled 0 (packedSteps packet) steps 64 i
@@ -43,7 +41,7 @@ loop-again c =
     let i = c .before .before .loop .i in
     let h : i < 64 = omega arith in
     stored h (c .before .before .loop .inv)
-    (byte-is-field packet (c .shared-slice-known .given) (16 + 8 * i) (2 + i) (omega arith) ∙ sym (steps-at packet i h))
+    (byte-is-field packet (c .shared-slice-known .given) (stepsAt + 8 * i) (2 + i) (omega arith) ∙ sym (steps-at packet i h))
 
 same-length : tie.Need-same-length Inv-loop μ-loop
 same-length c = search needs
