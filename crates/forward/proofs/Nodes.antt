@@ -43,15 +43,15 @@ module _ {a b m total : ℕ} {place sizes errors bits : List ℕ} where
   pub nodes-start : {costs sums preds : List ℕ} → Room costs sums preds
       → Nodes a b m total place sizes errors bits (set costs 0 (a * total + b * 0)) (set sums 0 0) preds 1
   nodes-start {costs} {sums} {preds} r =
-      record { cost-long = length-set costs 0 _ ∙ r .cost-long; sum-long = length-set sums 0 0 ∙ r .sum-long; pred-long = r .pred-long; nodes = nodes }
+      record { cost-long = length-set costs 0 _ ∙ r .first; sum-long = length-set sums 0 0 ∙ r .second; pred-long = r .third; nodes = nodes }
     where
       nodes : (B : Block) → Given B m total place sizes errors bits → (i : ℕ) → i < 1 → Node B a b place (set costs 0 (a * total + b * 0)) (set sums 0 0) preds i
       nodes B G i h =
           let z : 0 ≡ i = omega arith in
           subst (λ (i : ℕ). Node B a b place (set costs 0 (a * total + b * 0)) (set sums 0 0) preds i) z
           (n-some [] (subst (λ (k : ℕ). Candidate B a b k []) (sym (G .gathered .start)) (start B a b)) refl
-          (getD-set-same costs 0 (a * total + b * 0) 0 (omega (arith, r .cost-long)) ∙ start-cost a b total (dropped (B .drops) 1 63) (G .gathered .total-is))
-          (getD-set-same sums 0 0 0 (omega (arith, r .sum-long))))
+          (getD-set-same costs 0 (a * total + b * 0) 0 (omega (arith, r .first)) ∙ start-cost a b total (dropped (B .drops) 1 63) (G .gathered .total-is))
+          (getD-set-same sums 0 0 0 (omega (arith, r .second))))
 
   module _ {costs sums preds : List ℕ} {i : ℕ} (price : Accepted a b) (J : Job m total place sizes errors bits) (N : Nodes a b m total place sizes errors bits costs sums preds i) where
     pub nodes-span : 0 < i → i ≤ m → Span b i (entryOf sizes place i) place costs sums bits

@@ -73,8 +73,8 @@ pub record Job (m total : ℕ) (place sizes errors bits : List ℕ) : Type 0 whe
 pub record Decided (a b m total : ℕ) (place sizes errors bits : List ℕ) (r : Decision) : Type 0 where
   pub decides : (B : Block) → Given B m total place sizes errors bits → Decides B a b r
 
--- the room that the search is lent
-pub record Room (costs sums preds : List ℕ) : Type 0 where
-  pub cost-long : length costs ≡ 64
-  pub sum-long : length sums ≡ 64
-  pub pred-long : length preds ≡ 64
+-- three slices of 64 numbers, lent as room
+pub record Room (xs ys zs : List ℕ) : Type 0 where
+  pub first : length xs ≡ 64
+  pub second : length ys ≡ 64
+  pub third : length zs ≡ 64

@@ -11,8 +11,8 @@ ghost use Rattle.forward.specs.Scanning.{FAR, priced, costAt, bitAt, Spa
 // The mark of no cost.
 const FAR: u64 = 4611686018427387904;
 
-// The mark of a missing code.
-const NO: u64 = 2048;
+// The mark of a missing code in the table of bits.
+pub const NO: u64 = 2048;
 
 // How many levels of a block are not 0, and the error of dropping them all.
 pub struct Gathered {

@@ -39,10 +39,10 @@ cost-requires : tie.Need-cost-requires Inv-loop μ-loop
 cost-requires c κs = (c .before .before .before .before .before .before .before .pre .0, (total-most (c .before .before .before .before .before .before .before .pre .1 .1 .0), omega arith))
 
 slice-write-cost : tie.Need-slice-write-cost Inv-loop μ-loop
-slice-write-cost c = omega (arith, c .before .before .before .before .before .before .before .before .pre .1 .1 .1 .cost-long)
+slice-write-cost c = omega (arith, c .before .before .before .before .before .before .before .before .pre .1 .1 .1 .first)
 
 slice-write-sum : tie.Need-slice-write-sum Inv-loop μ-loop
-slice-write-sum c = omega (arith, c .before .before .before .before .before .before .before .before .pre .1 .1 .1 .sum-long)
+slice-write-sum c = omega (arith, c .before .before .before .before .before .before .before .before .pre .1 .1 .1 .second)
 
 loop-holds : tie.Need-loop-holds Inv-loop μ-loop
 loop-holds c = (omega arith, omega arith, rw (c .cost .ensures) (nodes-start (c .before .before .before .before .before .before .before .before .pre .1 .1 .1)))
@@ -134,13 +134,13 @@ loop-again c =
     (omega arith, omega (arith, c .before .before .before .before .before .before .before .before .before .before .loop-test .taken), nodes-next (c .before .before .before .before .before .before .before .before .before .before .before .before .before .before .before .before .before .before .before .before .pre .0) (c .before .before .before .before .before .before .before .before .before .before .before .before .before .before .before .before .before .before .before .before .pre .1 .1 .0) (c .before .before .before .before .before .before .before .before .before .before .before .loop .inv .2) (c .before .before .before .before .before .before .before .before .before .before .before .loop .inv .0) (c .before .before .before .before .before .before .before .before .before .before .loop-test .taken) (c .before .before .before .before .before .least .ensures) (c .reduced .ensures))
 
 same-length : tie.Need-same-length Inv-loop μ-loop
-same-length c = omega (arith, c .before .loop .inv .2 .cost-long, c .before .before .before .before .before .before .before .before .before .before .pre .1 .1 .1 .cost-long)
+same-length c = omega (arith, c .before .loop .inv .2 .cost-long, c .before .before .before .before .before .before .before .before .before .before .pre .1 .1 .1 .first)
 
 same-length-2 : tie.Need-same-length-2 Inv-loop μ-loop
-same-length-2 c = omega (arith, c .before .loop .inv .2 .sum-long, c .before .before .before .before .before .before .before .before .before .before .pre .1 .1 .1 .sum-long)
+same-length-2 c = omega (arith, c .before .loop .inv .2 .sum-long, c .before .before .before .before .before .before .before .before .before .before .pre .1 .1 .1 .second)
 
 same-length-3 : tie.Need-same-length-3 Inv-loop μ-loop
-same-length-3 c = omega (arith, c .before .loop .inv .2 .pred-long, c .before .before .before .before .before .before .before .before .before .before .pre .1 .1 .1 .pred-long)
+same-length-3 c = omega (arith, c .before .loop .inv .2 .pred-long, c .before .before .before .before .before .before .before .before .before .before .pre .1 .1 .1 .third)
 
 returns : tie.Need-returns Inv-loop μ-loop
 returns c = nodes-end (c .before .loop .inv .2) (c .before .loop .inv .1) (c .loop-test .left)

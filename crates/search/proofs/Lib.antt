@@ -1,0 +1,5 @@
+pub mod Tabling
+pub mod Reading
+pub mod Placing
+pub mod Weighing
+pub mod Block

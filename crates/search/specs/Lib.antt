@@ -1,0 +1,3 @@
+pub mod BitTable
+pub mod Ready
+pub mod Gathering

@@ -1,0 +1,225 @@
+// The best choice of one block at a price: the table of bits, once a still; the block's levels, gathered; the search.
+use block::magnitude;
+use block::size_of;
+use block::squared_error;
+use forward::Decision;
+use forward::Gathered;
+use forward::NO;
+use forward::search;
+use price::Error;
+use price::Price;
+ghost use mathlib.Core.Path.{_≡_};
+ghost use Prim.Native.Nat.{_+_, _≤_, _<_};
+ghost use lib.IntN.{natAbs};
+ghost use lib.ListN.{length, getD};
+ghost use Rattle.block.specs.Level.{acLevel};
+ghost use Rattle.block.specs.Limits.{Levels, Steps, Lengths};
+ghost use Rattle.price.specs.Price.{Accepted};
+ghost use Rattle.forward.specs.Given.{isFull, Room};
+ghost use Rattle.search.specs.BitTable.{Slot, Made};
+ghost use Rattle.search.specs.Ready.{GatheredFrom, Ready, Settles};
+ghost use Rattle.search.specs.Gathering.{LevelEntry, Filled, Next, Placed, Weighted};
+
+// How many entries the table of bits has: size * 64 + run, and the end of block as row 0.
+const ENTRIES: usize = 704;
+
+// The sixteen-zero code.
+const SIXTEEN_ZEROS: usize = 240;
+
+fn wide(x: u8) -> u64
+    ensures { λ r. ⌜ r ≡ x ⌝ }
+{
+    x as u64
+}
+
+// The bits of a level after a run of zeros.
+fn level_bits(lengths: &[u8], run: usize, size: usize) -> u64
+    requires { ⌜ Lengths (now lengths) ⌝ }
+    requires { ⌜ (run < 63) × (size ≤ 10) ⌝ }
+    ensures { λ r. ⌜ LevelEntry (λ i. getD (now (lengths .entry)) i 0) run size r ⌝ }
+{
+    let n = wide(lengths[run % 16 * 16 + size]);
+    if n == 0 {
+        return NO;
+    }
+    if run < 16 {
+        return n + size as u64;
+    }
+    let z = wide(lengths[SIXTEEN_ZEROS]);
+    if z == 0 {
+        return NO;
+    }
+    (run / 16) as u64 * z + n + size as u64
+}
+
+// What the table of bits holds at x.
+fn slot(lengths: &[u8], x: usize) -> u64
+    requires { ⌜ Lengths (now lengths) ⌝ }
+    requires { ⌜ x < 704 ⌝ }
+    ensures { λ r. ⌜ Slot (λ i. getD (now (lengths .entry)) i 0) x r ⌝ }
+{
+    if x == 0 {
+        return 0;
+    }
+    if x < 64 {
+        let n = wide(lengths[0]);
+        if n == 0 {
+            return NO;
+        }
+        return n;
+    }
+    if x % 64 == 63 {
+        return 0;
+    }
+    level_bits(lengths, x % 64, x / 64)
+}
+
+fn fill_table(lengths: &[u8], bits: &mut [u64])
+    requires { ⌜ Lengths (now lengths) ⌝ }
+    requires { ⌜ length (now bits) ≡ 704 ⌝ }
+    ensures { λ r. ⌜ Filled (λ i. getD (now (lengths .entry)) i 0) (now (bits .exit)) 704 ⌝ }
+{
+    let mut x = 0;
+    while x < ENTRIES {
+        bits[x] = slot(lengths, x);
+        x += 1;
+    }
+}
+
+fn is_full(bits: &[u64]) -> bool
+    requires { ⌜ length (now bits) ≡ 704 ⌝ }
+    ensures { λ r. ⌜ r ≡ isFull (now (bits .entry)) ⌝ }
+{
+    let mut x = 0;
+    while x < ENTRIES {
+        if bits[x] == NO {
+            return false;
+        }
+        x += 1;
+    }
+    true
+}
+
+// Makes the table of bits, once a still, and says whether no code is missing in it.
+pub fn bit_table(lengths: &[u8], bits: &mut [u64]) -> bool
+    requires { ⌜ Lengths (now lengths) ⌝ }
+    requires { ⌜ length (now bits) ≡ 704 ⌝ }
+    ensures { λ r. ⌜ Made (now (lengths .entry)) (now (bits .exit)) r ⌝ }
+{
+    fill_table(lengths, bits);
+    is_full(bits)
+}
+
+fn next_of(v: i16, m: usize) -> usize
+    requires { ⌜ m < 64 ⌝ }
+    ensures { λ r. ⌜ Next (natAbs v) m r ⌝ }
+{
+    let n = magnitude(v);
+    if n == 0 {
+        return m;
+    }
+    m + 1
+}
+
+// The places of the levels that are not 0, from 1 on, and how many there are. Each place is stored, and the next one
+// stored over it if its level is 0: this has no branch to guess wrong.
+fn places(levels: &[i16], place: &mut [usize]) -> usize
+    requires { ⌜ Levels (now levels) ⌝ }
+    requires { ⌜ length (now place) ≡ 64 ⌝ }
+    ensures { λ r. ⌜ Placed (acLevel (now (levels .entry))) r 64 (now (place .exit)) ⌝ }
+{
+    place[0] = 0;
+    let mut m = 0;
+    let mut k = 1;
+    while k < 64 {
+        place[m + 1] = k;
+        m = next_of(levels[k], m);
+        k += 1;
+    }
+    m
+}
+
+// Their sizes and errors, and the sum of the errors.
+fn weights(
+    levels: &[i16],
+    steps: &[u8],
+    m: usize,
+    place: &[usize],
+    size: &mut [usize],
+    drop: &mut [u64],
+) -> u64
+    requires { ⌜ Levels (now levels) ⌝ }
+    requires { ⌜ Steps (now steps) ⌝ }
+    requires { ⌜ Placed (acLevel (now levels)) m 64 (now place) ⌝ }
+    requires { ⌜ (length (now size) ≡ 64) × (length (now drop) ≡ 64) ⌝ }
+    ensures { λ r. ⌜ Weighted (acLevel (now (levels .entry))) (λ k. getD (now (steps .entry)) k 0) (now (place .entry)) (now (size .exit)) (now (drop .exit)) r (m + 1) ⌝ }
+{
+    let mut total = 0;
+    let mut i = 1;
+    while i <= m {
+        let p = place[i];
+        let n = magnitude(levels[p]);
+        let d = squared_error(n, steps[p]);
+        size[i] = size_of(n);
+        drop[i] = d;
+        total += d;
+        i += 1;
+    }
+    total
+}
+
+// The levels of a block that are not 0, for `forward::search`: their places, sizes and errors.
+pub fn gather(
+    levels: &[i16],
+    steps: &[u8],
+    place: &mut [usize],
+    size: &mut [usize],
+    drop: &mut [u64],
+) -> Gathered
+    requires { ⌜ Levels (now levels) ⌝ }
+    requires { ⌜ Steps (now steps) ⌝ }
+    requires { ⌜ Room (now place) (now size) (now drop) ⌝ }
+    ensures { λ r. ⌜ GatheredFrom (now (levels .entry)) (now (steps .entry)) r (now (place .exit)) (now (size .exit)) (now (drop .exit)) ⌝ }
+{
+    let m = places(levels, place);
+    let total = weights(levels, steps, m, place, size, drop);
+    Gathered {
+        count: m,
+        error: Error(total),
+    }
+}
+
+// The best choice of a block, in lent room.
+pub fn decide(
+    levels: &[i16],
+    steps: &[u8],
+    price: Price,
+    full: bool,
+    bits: &[u64],
+    place: &mut [usize],
+    size: &mut [usize],
+    drop: &mut [u64],
+    cost: &mut [u64],
+    sum: &mut [u64],
+    pred: &mut [usize],
+) -> Decision
+    requires { ⌜ Accepted (price .a) (price .b) ⌝ }
+    requires { ⌜ Ready (now levels) (now steps) (now bits) full ⌝ }
+    requires { ⌜ Room (now place) (now size) (now drop) ⌝ }
+    requires { ⌜ Room (now cost) (now sum) (now pred) ⌝ }
+    ensures { λ r. ⌜ Settles (now (levels .entry)) (now (steps .entry)) (now (bits .entry)) (price .a) (price .b) r ⌝ }
+{
+    let gathered = gather(levels, steps, place, size, drop);
+    search(
+        price,
+        full,
+        bits,
+        gathered,
+        place,
+        size,
+        drop,
+        cost,
+        sum,
+        pred,
+    )
+}
