@@ -6,6 +6,9 @@ use mathlib.Core.Bool.{Bool, true, false}
 use Prim.Native.Nat.{ℕ}
 use native.Mathlib.Omega.{arith}
 
+pub never : false ≡ true → ⊥
+never t = let z : _≡_ {A = ℕ} 0 1 = cc in omega arith
+
 unfoldable pub both : Bool → Bool → Bool
 both true b = b
 both false b = false
@@ -21,7 +24,7 @@ implies false b = true
 pub both-is : (a b : Bool) → both a b ≡ true → (a ≡ true) × (b ≡ true)
 unfolding both
 both-is true b t = (refl, t)
-both-is false b t = let z : _≡_ {A = ℕ} 0 1 = cc in absurd (omega arith)
+both-is false b t = absurd (never t)
 
 pub is-both : (a b : Bool) → a ≡ true → b ≡ true → both a b ≡ true
 unfolding both
@@ -41,4 +44,4 @@ is-either false b f = f refl
 pub implied : (a b : Bool) → implies a b ≡ true → a ≡ true → b ≡ true
 unfolding implies
 implied true b t s = t
-implied false b t s = let z : _≡_ {A = ℕ} 0 1 = cc in absurd (omega arith)
+implied false b t s = absurd (never s)
