@@ -1,9 +1,9 @@
 -- Every codable choice of a block, as a list that antt computes.
 -- Assumes nothing.
-use mathlib.Core.Path.{_≡_, refl, sym, subst, ap}
-use mathlib.Core.Logic.{_⊎_, inl, inr}
-use mathlib.Core.Bool.{Bool, true, false}
-use mathlib.Core.List.{List, [], _∷_, _++_, map, List·Memᴰ, List·Memᴰ·head, List·Memᴰ·not-nil, List·Memᴰ·append-cases, List·Memᴰ·eq-of-singleton, Memᴰ·append-left, Memᴰ·append-right, Memᴰ·map, Memᴰ·of-map}
+use mathlib.Core.Path.{_≡_, refl, sym, subst}
+use mathlib.Core.Logic.{inl, inr}
+use mathlib.Core.Bool.{Bool, true}
+use mathlib.Core.List.{List, [], _∷_, _++_, map, List·Memᴰ, List·Memᴰ·head, List·Memᴰ·append-cases, List·Memᴰ·eq-of-singleton, Memᴰ·append-left, Memᴰ·append-right, Memᴰ·map, Memᴰ·of-map}
 use Prim.Native.Nat.{ℕ, zero, suc, _+_, _-_, _≤_, _<_}
 use native.Mathlib.Nat.{eq-or-lt-of-le}
 use native.Mathlib.Omega.{arith}
@@ -22,7 +22,9 @@ module _ (B : Block) where
 
   -- position k can be kept next after j
   abbrev levelb : ℕ → ℕ → Bool
-  levelb j k = both (ltb 0 (B .size k)) (both (ltb 0 (B .len (entry (k - j - 1) (B .size k)))) (either (ltb (k - j - 1) 16) (ltb 0 (B .len 240))))
+  levelb j k =
+      let r = k - j - 1 in
+      both (ltb 0 (B .size k)) (both (ltb 0 (B .len (entry r (B .size k)))) (either (ltb r 16) (ltb 0 (B .len 240))))
 
   -- the codable choices of the f positions from k on, where j is the kept position before
   unfoldable pub codes : ℕ → ℕ → ℕ → List (List ℕ)
@@ -33,19 +35,17 @@ module _ (B : Block) where
   end-is j h = is-either _ _ (λ n. lt-ltb _ _ (h (leb-false _ _ n)))
 
   end-by : (j : ℕ) → endb j ≡ true → Codable B j []
-  end-by j t = λ h. elim (either-is (leb 63 j) (ltb 0 (B .len 0)) t) [ inl p ↦ absurd (omega (arith, leb-true 63 j p)) | inr p ↦ ltb-true _ _ p ]
+  end-by j t h = elim (either-is _ _ t) [ inl p ↦ absurd (omega (arith, leb-true 63 j p)) | inr p ↦ ltb-true _ _ p ]
 
   level-is : (j k : ℕ) → 0 < B .size k → LevelCode (B .len) (k - j - 1) (B .size k) → levelb j k ≡ true
   level-is j k s h = is-both _ _ (lt-ltb _ _ s) (is-both _ _ (lt-ltb _ _ (h .0)) (is-either _ _ (λ n. lt-ltb _ _ (h .1 (ltb-false _ _ n)))))
 
   level-by : (j k : ℕ) → levelb j k ≡ true → (0 < B .size k) × LevelCode (B .len) (k - j - 1) (B .size k)
-  level-by j k t = let u = both-is _ _ (both-is _ _ t .1) in (
-    ltb-true _ _ (both-is _ _ t .0),
-    (
-      ltb-true _ _ (u .0),
-      λ h. elim (either-is (ltb (k - j - 1) 16) (ltb 0 (B .len 240)) (u .1)) [ inl s ↦ absurd (omega (arith, ltb-true (k - j - 1) 16 s)) | inr s ↦ ltb-true _ _ s ],
-    ),
-  )
+  level-by j k t =
+      let u = both-is _ _ (both-is _ _ t .1) in
+      let far : 16 ≤ k - j - 1 → 0 < B .len 240 =
+      λ h. elim (either-is _ _ (u .1)) [ inl s ↦ absurd (omega (arith, ltb-true (k - j - 1) 16 s)) | inr s ↦ ltb-true _ _ s ] in
+      (ltb-true _ _ (both-is _ _ t .0), (ltb-true _ _ (u .0), far))
 
   abbrev From : ℕ → List ℕ → Type 0
   From k [] = Unit {0}

@@ -117,8 +117,7 @@ module _ (Bs : List Block) where
   pub none-fits-by : (budget m : ℕ) → noneFitsb budget m ≡ true → LeastBits (Attainable Bs) m × (budget < m)
   none-fits-by budget m t =
       let u = each-at _ t in
-      let v = any-is _ _ (u 0) in
-      (
+      let v = any-is _ _ (u 0) in (
         record {
           pair = v .0;
           attained = sums-only Bs (v .1);

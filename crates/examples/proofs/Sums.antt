@@ -8,7 +8,7 @@ use native.Mathlib.Omega.{arith}
 use lib.ListN.{length, getD}
 use Rattle.block.specs.Block.{Block}
 use Rattle.corners.specs.Pair.{Pair}
-use Rattle.corners.specs.Still.{total, Attains}
+use Rattle.corners.specs.Still.{total}
 use Rattle.corners.proofs.Corners.{pair-path}
 use Rattle.attained.specs.Attained.{pairOf, Attained}
 use Rattle.examples.specs.Example.{block, pair, Attainable}
@@ -62,7 +62,8 @@ unfoldable pub sums : List Block → List Pair
 sums [] = pair 0 0 ∷ []
 sums (B ∷ Bs) = crossed (pairs B) (sums Bs)
 
-total-in : (Bs : List Block) (f : ℕ → Pair) → ((i : ℕ) → i < length Bs → Attained (getD Bs i (block [] [] [])) (f i)) → List·Memᴰ (total f (length Bs)) (sums Bs)
+total-in : (Bs : List Block) (f : ℕ → Pair) → ((i : ℕ) → i < length Bs → Attained (getD Bs i (block [] [] [])) (f i))
+    → List·Memᴰ (total f (length Bs)) (sums Bs)
 unfolding sums
 total-in [] f h = List·Memᴰ·head refl
 total-in (B ∷ Bs) f h =

@@ -1,9 +1,9 @@
 -- Tests of a block over every codable choice of it, and what they show when they come out true.
 -- Assumes nothing.
-use mathlib.Core.Path.{_≡_, refl, sym, ap₂}
-use mathlib.Core.Logic.{_⊎_, inl, inr}
+use mathlib.Core.Path.{_≡_, refl, ap₂}
+use mathlib.Core.Logic.{inl, inr}
 use mathlib.Core.Bool.{Bool, true, false}
-use mathlib.Core.List.{List, [], _∷_, List·Memᴰ, Memᴰ·cast}
+use mathlib.Core.List.{List, [], _∷_, Memᴰ·cast}
 use Prim.Native.Nat.{ℕ}
 use borrow.Author.Tests.{ltb-true, leb-true, eqb-true}
 use lib.Dec.{ltb, leb, eqb}
@@ -33,15 +33,15 @@ beforeb a b v w =
     (both (eqb (cost a b v) (cost a b w)) (either (ltb (v .bit) (w .bit)) (both (eqb (v .bit) (w .bit)) (leb (v .keep) (w .keep)))))
 
 before-by : (a b : ℕ) (v w : Way) → beforeb a b v w ≡ true → Before a b v w
-before-by a b v w t = go (either-is _ _ t)
-  where
-    last : (eqb (cost a b v) (cost a b w) ≡ true) → (ltb (v .bit) (w .bit) ≡ true) ⊎ (both (eqb (v .bit) (w .bit)) (leb (v .keep) (w .keep)) ≡ true) → Before a b v w
-    last e (inl h) = shorter (eqb-true _ _ e) (ltb-true _ _ h)
-    last e (inr h) = smaller (eqb-true _ _ e) (eqb-true _ _ (both-is _ _ h .0)) (leb-true _ _ (both-is _ _ h .1))
-
-    go : (ltb (cost a b v) (cost a b w) ≡ true) ⊎ (both (eqb (cost a b v) (cost a b w)) (either (ltb (v .bit) (w .bit)) (both (eqb (v .bit) (w .bit)) (leb (v .keep) (w .keep)))) ≡ true) → Before a b v w
-    go (inl h) = cheaper (ltb-true _ _ h)
-    go (inr h) = last (both-is _ _ h .0) (either-is _ _ (both-is _ _ h .1))
+before-by a b v w t = elim (either-is _ _ t) [
+  | inl h ↦ cheaper (ltb-true _ _ h)
+  | inr h ↦
+      let e = eqb-true _ _ (both-is _ _ h .0) in
+      elim (either-is _ _ (both-is _ _ h .1)) [
+        | inl k ↦ shorter e (ltb-true _ _ k)
+        | inr k ↦ smaller e (eqb-true _ _ (both-is _ _ k .0)) (leb-true _ _ (both-is _ _ k .1))
+      ]
+]
 
 module _ (B : Block) where
   -- c is codable

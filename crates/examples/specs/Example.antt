@@ -24,7 +24,7 @@ ones (k ∷ ks) = set (ones ks) k (pos 1)
 abbrev pub block : List ℕ → List ℕ → List ℕ → Block
 block ks steps lengths = blockOf (ones ks) steps lengths
 
--- what a still of these blocks attains (no position behind its last block is looked at)
+-- what a still of these blocks attains; of a block behind the last nothing is asked
 abbrev pub Attainable : List Block → Pair → Type 0
 Attainable blocks P = Attains (λ i. Attained (getD blocks i (block [] [] []))) (length blocks) P
 
