@@ -10,9 +10,12 @@ pub then-fine : (v w : Verdict) → v then w ≡ fine → (v ≡ fine) × (w ≡
 then-fine fine w e = (refl, e)
 then-fine (refuse n d f) w e = absurd (let z : _≡_ {A = ℕ} 0 1 = cc in omega arith)
 
-pub then-assoc : (u v w : Verdict) → (u then v) then w ≡ u then v then w
-then-assoc fine v w = refl
-then-assoc (refuse n d e) v w = refl
+-- a verdict that is fine hands on to the next, and one that is not is the answer
+pub then-on : {v : Verdict} (w : Verdict) → v ≡ fine → v then w ≡ w
+then-on w e = rw e
+
+pub then-stop : {v : Verdict} {n d f : ℕ} (w : Verdict) → v ≡ refuse n d f → v then w ≡ refuse n d f
+then-stop w e = rw e
 
 pub when-fine : (b : Bool) (n d e : ℕ) → when b (refuse n d e) ≡ fine → b ≡ false
 when-fine true n d f e = absurd (let z : _≡_ {A = ℕ} 0 1 = cc in omega arith)

@@ -59,7 +59,7 @@ saidCheck checked.Fine = fine
 saidCheck (checked.Refused r) = refuse (numberOf (r .kind)) (r .first) (r .second)
 
 -- the first of two verdicts that refuses
-infixr 5 _then_
+infixl 5 _then_
 abbrev pub _then_ : Verdict → Verdict → Verdict
 fine then w = w
 refuse n d e then w = refuse n d e

@@ -1,0 +1,6 @@
+pub mod Passed
+pub mod Place
+pub mod Made
+pub mod Bits
+pub mod Checks
+pub mod Fine

@@ -1,0 +1,36 @@
+-- `still::check_budget` meets its contract: it joins its three parts in their order.
+-- Assumes nothing.
+use borrow.Author.Needs.{needs}
+use Rattle.still.specs.Refusals.{budgetVerdict}
+use Rattle.still.proofs.check_budget.Statement.{statement}
+use Rattle.still.proofs.check_budget.Tie as tie
+
+check-still-requires : tie.Need-check-still-requires
+check-still-requires c κs = search needs
+
+check-keep-room-requires : tie.Need-check-keep-room-requires
+check-keep-room-requires c κs = search needs
+
+then-requires : tie.Need-then-requires
+then-requires c κs = search needs
+
+check-ac-requires : tie.Need-check-ac-requires
+check-ac-requires c κs = search needs
+
+then-requires-2 : tie.Need-then-requires-2
+then-requires-2 c κs = search needs
+
+returns : tie.Need-returns
+unfolding budgetVerdict
+returns c = cc
+
+pub check-budget-spec : {M : Type 1} → statement M
+check-budget-spec =
+    tie.close
+    (tie.spec
+    check-still-requires
+    check-keep-room-requires
+    then-requires
+    check-ac-requires
+    then-requires-2
+    returns)
