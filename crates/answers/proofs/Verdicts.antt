@@ -10,6 +10,9 @@ pub then-fine : (v w : Verdict) → v then w ≡ fine → (v ≡ fine) × (w ≡
 then-fine fine w e = (refl, e)
 then-fine (refuse n d f) w e = absurd (let z : _≡_ {A = ℕ} 0 1 = cc in omega arith)
 
+pub then-same : {u v w x : Verdict} → u ≡ v → w ≡ x → u then w ≡ v then x
+then-same p q = rw (p, q)
+
 -- a verdict that is fine hands on to the next, and one that is not is the answer
 pub then-on : {v : Verdict} (w : Verdict) → v ≡ fine → v then w ≡ w
 then-on w e = rw e

@@ -15,7 +15,13 @@ ghost use Rattle.still.specs.Sound.{Sound};
 ghost use Rattle.price_job.specs.PriceJob.{Priced, PriceMeets};
 
 // The keep numbers are stored once every block is decided.
-fn decide(levels: &[i16], steps: &[u8], lengths: &[u8], price: Price, keep: &mut [u64]) -> PointAnswer
+fn decide(
+    levels: &[i16],
+    steps: &[u8],
+    lengths: &[u8],
+    price: Price,
+    keep: &mut [u64],
+) -> PointAnswer
     requires still { ⌜ Sound (now levels) (now steps) (now lengths) (length (now levels) / 64) ⌝ }
     requires price { ⌜ Accepted (price .a) (price .b) ⌝ }
     requires room { ⌜ length (now keep) ≡ length (now levels) / 64 ⌝ }
@@ -24,7 +30,15 @@ fn decide(levels: &[i16], steps: &[u8], lengths: &[u8], price: Price, keep: &mut
     let mut bits = [0u64; 1024];
     let mut error = [0u64; 1024];
     let mut chosen = [0u64; 1024];
-    match winners::winners(levels, steps, lengths, price, &mut bits, &mut error, &mut chosen) {
+    match winners::winners(
+        levels,
+        steps,
+        lengths,
+        price,
+        &mut bits,
+        &mut error,
+        &mut chosen,
+    ) {
         Outcome::Uncodable(i) => PointAnswer::Refused(Refusal {
             kind: Kind::Uncodable,
             first: i as u64,

@@ -34,6 +34,7 @@ module _ (levels : List ℤ) where
         let r = then-fine _ _ (q .0) in
         (sound-fine (r .0) (p .1), price-fine a b (r .1), keep-room-fine _ room (q .1))
 
+    -- by `cc`, since which of its last two checks comes first does not matter here
     pub list-verdict-fine : (room : ℕ) → listVerdict levels steps lengths room ≡ fine
         → Sound levels steps lengths (length levels / 64) × (room % 3 ≡ 0)
     unfolding listVerdict

@@ -1,7 +1,7 @@
 -- Levels that are thinned from the front: what holds of the places passed and of those to come.
 -- Assumes nothing.
 use mathlib.Core.Path.{_≡_, refl, sym, _∙_}
-use mathlib.Core.Bool.{true, false}
+use mathlib.Core.Bool.{Bool, true, false, not}
 use mathlib.Core.List.{List}
 use Prim.Native.Nat.{ℕ, _+_, _≤_, _<_}
 use native.Mathlib.Omega.{arith}
@@ -12,6 +12,14 @@ use borrow.Author.Count.{below-more}
 use Rattle.block.specs.First.{pick}
 use Rattle.thin_job.specs.ThinJob.{stays, Thinned}
 
+not-true : (b : Bool) → not b ≡ true → b ≡ false
+not-true true e = let z : _≡_ {A = ℕ} 0 1 = cc in absurd (omega arith)
+not-true false e = refl
+
+not-false : (b : Bool) → not b ≡ false → b ≡ true
+not-false true e = refl
+not-false false e = let z : _≡_ {A = ℕ} 0 1 = cc in absurd (omega arith)
+
 pub record ThinnedTo (before : List ℤ) (keep : List ℕ) (n : ℕ) (after : List ℤ) : Type 0 where
   pub count : length after ≡ length before
   pub passed : (i : ℕ) → i < n → getD after i (pos 0) ≡ pick (stays keep i) (getD before i (pos 0)) (pos 0)
@@ -21,8 +29,9 @@ pub begun : (before : List ℤ) (keep : List ℕ) → ThinnedTo before keep 0 be
 begun before keep = record { count = refl; passed = λ i h. absurd (omega arith); ahead = λ i h. refl }
 
 module _ {before : List ℤ} {keep : List ℕ} {n : ℕ} {after : List ℤ} (t : ThinnedTo before keep n after) where
-  pub drops : n < length before → stays keep n ≡ false → ThinnedTo before keep (n + 1) (set after n (pos 0))
-  drops h e =
+  pub drops : n < length before → not (stays keep n) ≡ true → ThinnedTo before keep (n + 1) (set after n (pos 0))
+  drops h f =
+      let e : stays keep n ≡ false = not-true (stays keep n) f in
       let l : n < length after = omega (arith, t .count) in
       record {
         count = simp length-set (t .count);
@@ -32,8 +41,8 @@ module _ {before : List ℤ} {keep : List ℕ} {n : ℕ} {after : List ℤ} (t :
         ahead = λ i l. getD-set-other after n i (pos 0) (pos 0) (omega arith) ∙ t .ahead i (omega arith);
       }
 
-  pub keeps : stays keep n ≡ true → ThinnedTo before keep (n + 1) after
-  keeps e = record {
+  pub keeps : not (stays keep n) ≡ false → ThinnedTo before keep (n + 1) after
+  keeps f = let e : stays keep n ≡ true = not-false (stays keep n) f in record {
     count = t .count;
     passed = below-more _ n (t .passed) (t .ahead n (omega arith) ∙ sym (simp e));
     ahead = λ i l. t .ahead i (omega arith);

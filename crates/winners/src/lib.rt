@@ -29,7 +29,7 @@ pub fn winners(
 ) -> Outcome
     requires still { ⌜ Sound (now levels) (now steps) (now lengths) (length (now levels) / 64) ⌝ }
     requires price { ⌜ Accepted (price .a) (price .b) ⌝ }
-    requires room { ⌜ (1024 ≤ length (now bits)) × (1024 ≤ length (now error)) × (1024 ≤ length (now keep)) ⌝ }
+    requires room { ⌜ (length (now levels) / 64 ≤ length (now bits)) × (length (now levels) / 64 ≤ length (now error)) × (length (now levels) / 64 ≤ length (now keep)) ⌝ }
     ensures { λ r. ⌜ Outcomes (blockAt (now (levels .entry)) (now (steps .entry)) (now (lengths .entry))) (length (now (levels .entry)) / 64) (price .a) (price .b) (now (bits .exit)) (now (error .exit)) (now (keep .exit)) r ⌝ }
 {
     let mut table = [0u64; 704];

@@ -1,6 +1,8 @@
 -- `still::check_price` meets its contract: it joins its four parts in their order.
 -- Assumes nothing.
+use mathlib.Core.Path.{_∙_}
 use borrow.Author.Needs.{needs}
+use Rattle.answers.proofs.Verdicts.{then-same}
 use Rattle.still.specs.Refusals.{priceVerdict}
 use Rattle.still.proofs.check_price.Statement.{statement}
 use Rattle.still.proofs.check_price.Tie as tie
@@ -28,7 +30,12 @@ then-requires-3 c κs = search needs
 
 returns : tie.Need-returns
 unfolding priceVerdict
-returns c = cc
+returns c =
+    c .then3 .ensures
+    ∙ then-same
+    (c .before .before .then2 .ensures
+    ∙ then-same (c .before .before .before .before .then .ensures ∙ then-same (c .before .before .before .before .before .before .check-still .ensures) (c .before .before .before .before .before .check-range .ensures)) (c .before .before .before .check-keep-room .ensures))
+    (c .before .check-ac .ensures)
 
 pub check-price-spec : {M : Type 1} → statement M
 check-price-spec =

@@ -1,6 +1,8 @@
 -- `still::check_still` meets its contract: it joins its three checks in their order.
 -- Assumes nothing.
+use mathlib.Core.Path.{_∙_}
 use borrow.Author.Needs.{needs}
+use Rattle.answers.proofs.Verdicts.{then-same}
 use Rattle.still.proofs.check_still.Statement.{statement}
 use Rattle.still.proofs.check_still.Tie as tie
 
@@ -20,7 +22,9 @@ then-requires-2 : tie.Need-then-requires-2
 then-requires-2 c κs = search needs
 
 returns : tie.Need-returns
-returns c = cc
+returns c =
+    c .then2 .ensures
+    ∙ then-same (c .before .before .then .ensures ∙ then-same (c .before .before .before .before .check-levels .ensures) (c .before .before .before .check-table .ensures)) (c .before .check-table2 .ensures)
 
 pub check-still-spec : {M : Type 1} → statement M
 check-still-spec =

@@ -7,7 +7,7 @@ use native.Mathlib.Omega.{arith}
 use lib.ListN.{length}
 use Rattle.answers.specs.Said.{Verdict, fine, saidCheck, _then_}
 use Rattle.still.specs.Refusals.{levelsCheck, keepRoomCheck, acCheck, thinVerdict}
-use Rattle.answers.proofs.Verdicts.{then-on, then-stop}
+use Rattle.answers.proofs.Verdicts.{then-same, then-on, then-stop}
 use Rattle.still.proofs.Fine.{lent-fine}
 use Rattle.still.proofs.check_thin.Statement.{statement}
 use Rattle.still.proofs.check_thin.Tie as tie
@@ -38,7 +38,9 @@ lent c =
     then acCheck (c .args .levels .now)
 
 joined : (c : tie.After-then2) → saidCheck (c .then2 .result) ≡ lent (c .before .before .before .before .before .before)
-joined c = cc
+joined c =
+    c .then2 .ensures
+    ∙ then-same (c .before .before .then .ensures ∙ then-same (c .before .before .before .before .check-levels .ensures) (c .before .before .before .check-keep-room .ensures)) (c .before .check-ac .ensures)
 
 none-refused : (c : tie.After-enum-told) → lent (c .before .before .before .before .before .before .before .before) ≡ fine
 none-refused c = sym (joined (c .before .before)) ∙ ap saidCheck (c .enum-told .given .1)
