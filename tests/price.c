@@ -301,6 +301,15 @@ static void thin_refusals(Options options)
     tally_end();
 }
 
+static void try_once(const Made *made, Random *random)
+{
+    Plain plain = plain_of(made_still(made), BY_PROGRAMME);
+    LentStill lent = lend_still(plain.still);
+    try_price(&plain, &lent, 1, 0, made->blocks, random);
+    lent_still_done(&lent);
+    plain_done(&plain);
+}
+
 /* Each place of each slice can be the bad one, and is told. */
 static void every_place(Options options)
 {
@@ -309,24 +318,16 @@ static void every_place(Options options)
     for (unsigned place = 0; place < LENGTHS; place++) {
         Made made = made_zero(4, 10);
         unsigned block = place / POSITIONS, k = place % POSITIONS;
-        LentStill lent;
-        Plain plain = plain_of(made_still(&made), BY_PROGRAMME);
         made.lengths[place] = (uint8_t)between(&random, 17, 255);
-        lent = lend_still(plain.still);
         tally_case("length %u", place);
-        try_price(&plain, &lent, 1, 0, 4, &random);
-        lent_still_done(&lent);
+        try_once(&made, &random);
         made.lengths[place] = 16;
         made.levels[place] = (int16_t)(one_in(&random, 2) ? 1024 : -1024);
-        lent = lend_still(plain.still);
         tally_case("level %u of block %u", k, block);
-        try_price(&plain, &lent, 1, 0, 4, &random);
-        lent_still_done(&lent);
+        try_once(&made, &random);
         made.steps[k] = 0;
-        lent = lend_still(plain.still);
         tally_case("step %u", k);
-        try_price(&plain, &lent, 1, 0, 4, &random);
-        lent_still_done(&lent);
+        try_once(&made, &random);
         made_done(&made);
     }
     tally_end();

@@ -4,8 +4,8 @@
 #include <stdlib.h>
 #include <string.h>
 
-const char *const large_names[LARGE_KINDS] = {"random",  "falling",   "ones", "greatest",  "longest",
-                                              "equal", "collinear", "gaps", "photograph"};
+const char *const large_names[LARGE_KINDS] = {"random",   "falling",   "ones", "greatest",  "longest", "equal",
+                                              "parallel", "collinear", "gaps", "photograph"};
 
 Still made_still(const Made *made)
 {
@@ -171,8 +171,9 @@ static int64_t large_level(Large kind, Random *random, unsigned k)
     switch (kind) {
     case LARGE_RANDOM:
     case LARGE_GAPS:
-    case LARGE_EQUAL:
         return between(random, 1, GREATEST_LEVEL);
+    case LARGE_EQUAL:
+        return k <= 24 ? between(random, 1, GREATEST_LEVEL) : 0;
     case LARGE_FALLING:
         return 1 + (GREATEST_LEVEL - between(random, 1, 400)) / (int64_t)(k * k);
     case LARGE_GREATEST:
@@ -187,8 +188,23 @@ static int64_t large_level(Large kind, Random *random, unsigned k)
     }
 }
 
+/* For k from 1 to 3, a level of 1 at position k removes (k + 1)^2 of error and adds as many bits. */
+static Made parallel(size_t blocks, Random *random)
+{
+    Made made = made_zero(blocks, 1);
+    for (unsigned k = 1; k <= 3; k++) {
+        made.steps[k] = (uint8_t)(k + 1);
+        made.lengths[16 * (k - 1) + 1] = (uint8_t)((k + 1) * (k + 1) - 1);
+    }
+    for (size_t block = 0; block < blocks; block++)
+        made.levels[POSITIONS * block + (size_t)between(random, 1, 3)] = 1;
+    return made;
+}
+
 Made made_large(Large kind, size_t blocks, Random *random)
 {
+    if (kind == LARGE_PARALLEL)
+        return parallel(blocks, random);
     Made made = made_zero(blocks, 1);
     for (unsigned k = 0; k < POSITIONS; k++)
         made.steps[k] = (uint8_t)large_step(kind, random, k);

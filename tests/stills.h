@@ -19,7 +19,8 @@ typedef enum {
     LARGE_ONES,       /* 63 levels of 1 and -1, equal steps */
     LARGE_GREATEST,   /* 63 levels of 1,023 and -1,023, steps 255: the greatest error */
     LARGE_LONGEST,    /* as before, every length 16: the most bits */
-    LARGE_EQUAL,      /* the same block again and again: equal slopes */
+    LARGE_EQUAL,      /* the same block again and again, 24 nonzero levels: equal slopes */
+    LARGE_PARALLEL,   /* one level a block, of equal slope but unequal size */
     LARGE_COLLINEAR,  /* every level adds the same bits and removes the same error */
     LARGE_GAPS,       /* a random table with codes missing */
     LARGE_PHOTOGRAPH, /* few nonzero levels, at the front, small */
