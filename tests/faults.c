@@ -11,9 +11,10 @@ Call call_sound(Random *random)
     Made made = made_sound(random);
     Plain plain = plain_of(made_still(&made), BY_PROGRAMME);
     Call call = {.blocks = made.blocks, .levels = made.levels, .levels_len = POSITIONS * made.blocks,
-                 .steps_len = POSITIONS, .lengths_len = LENGTHS, .a = any_size(random, GREATEST_A - 1) + 1,
-                 .b = any_size(random, GREATEST_B), .keep_len = made.blocks,
+                 .steps_len = POSITIONS, .lengths_len = LENGTHS, .keep_len = made.blocks,
                  .corners = plain_stops(&plain)->count, .least = plain_stops(&plain)->corners[0].bits};
+    call.a = any_size(random, GREATEST_A - 1) + 1;
+    call.b = any_size(random, GREATEST_B);
     call.list_len = 3 * (call.corners + below(random, 3));
     call.budget = (uint32_t)(call.least + any_size(random, UINT32_MAX - call.least));
     plain_done(&plain);
@@ -66,9 +67,10 @@ static size_t spoil_slice(uint8_t *slice, size_t count, uint8_t least, uint8_t g
     uint64_t kind = packed ? 0 : below(random, 3);
     if (kind <= 1) {
         size_t ends[4] = {0, 1, count - 16, count - 1};
-        for (uint64_t bad = between(random, 1, 3); bad > 0; bad--)
-            slice[one_in(random, 2) ? ends[below(random, 4)] : below(random, count)] =
-                (uint8_t)between(random, least, greatest);
+        for (uint64_t bad = between(random, 1, 3); bad > 0; bad--) {
+            size_t place = one_in(random, 2) ? ends[below(random, 4)] : below(random, count);
+            slice[place] = (uint8_t)between(random, least, greatest);
+        }
     }
     if (kind == 0)
         return count;
@@ -94,7 +96,8 @@ static void spoil_room(Call *call, Random *random)
     call->keep_len = wrong[below(random, 6)];
     if (call->keep_len == n)
         call->keep_len = n + 5;
-    call->list_len = 3 * below(random, call->corners + 3) + (size_t)between(random, 1, 2);
+    call->list_len = 3 * below(random, call->corners + 3);
+    call->list_len += (size_t)between(random, 1, 2);
 }
 
 /* 6: one to three levels out of range, and perhaps a DC beyond it, which is no fault. */

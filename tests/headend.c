@@ -115,7 +115,7 @@ static void large_stills(Options options)
 {
     static const size_t blocks[] = {1, 7, 64, MOST_PACKED};
     tally_begin("head-end: large stills, by the dynamic programme");
-    for (size_t size = 0; size < 4; size++)
+    for (size_t size = 0; size < large_sizes(options); size++)
         for (Large kind = 0; kind < LARGE_KINDS; kind++) {
             Random random = random_of(options.seed, 1000 * kind + blocks[size]);
             Made made = made_large(kind, blocks[size], &random);

@@ -47,8 +47,9 @@ static void try_fit(Plain *plain, const LentStill *lent, uint64_t budget, size_t
 static void try_rooms(Plain *plain, const LentStill *lent, Random *random)
 {
     size_t enough = 3 * plain_stops(plain)->count;
-    size_t rooms[] = {enough, enough + 3, enough + 3 * below(random, 20), enough - 3, 3 * below(random, enough / 3),
-                      0,      enough + 1, enough + 2,                     enough - 1, 1 + 3 * below(random, enough)};
+    size_t more = 3 * below(random, 20), less = 3 * below(random, enough / 3);
+    size_t rooms[] = {enough, enough + 3, enough + more, enough - 3, less,
+                      0,      enough + 1, enough + 2,    enough - 1, less + 1};
     for (size_t i = 0; i < sizeof rooms / sizeof *rooms; i++)
         try_list(plain, lent, rooms[i], random);
 }
@@ -123,7 +124,7 @@ static void large_stills(Options options)
 {
     static const size_t blocks[] = {1, 16, 256, MOST_BLOCKS};
     tally_begin("list and budget: large stills, by the dynamic programme");
-    for (size_t size = 0; size < 4; size++)
+    for (size_t size = 0; size < large_sizes(options); size++)
         for (Large kind = 0; kind < LARGE_KINDS; kind++) {
             Random random = random_of(options.seed, 1000 * kind + blocks[size]);
             Made made = made_large(kind, blocks[size], &random);

@@ -2,6 +2,7 @@
 #ifndef OPTIONS_H
 #define OPTIONS_H
 
+#include <stddef.h>
 #include <stdint.h>
 #include <stdio.h>
 #include <stdlib.h>
@@ -23,6 +24,12 @@ static inline Options options_of(int count, char **arguments, uint64_t default_c
     printf("%s: %ju small stills, seed %ju, samples in %s\n", arguments[0], (uintmax_t)options.count,
            (uintmax_t)options.seed, options.samples);
     return options;
+}
+
+/* A short run leaves out the largest of the four sizes of large stills. */
+static inline size_t large_sizes(Options options)
+{
+    return options.count < 1000 ? 3 : 4;
 }
 
 #endif

@@ -91,14 +91,15 @@ static void damaged(uint64_t count, uint64_t seed)
         call_spoil(&call, (Faults)(draw(&random) & draw(&random)) & in_packet, true, &random);
         fill_randomly(&random, packet, sizeof packet);
         size_t length = pack(call_still(&call), packet);
+        uint8_t bit = (uint8_t)(1 << below(&random, 8));
         if (kind == 0)
-            packet[below(&random, length)] ^= (uint8_t)(1 << below(&random, 8));
+            packet[below(&random, length)] ^= bit;
         else if (kind == 1)
             length = below(&random, length);
         else if (kind == 2)
             length += (size_t)between(&random, 1, PACKED_BLOCK);
         else if (kind == 3)
-            packet[below(&random, 2)] ^= (uint8_t)(1 << below(&random, 8));
+            packet[below(&random, 2)] ^= bit;
         write_packet("damaged", serial, packet, length);
         call_done(&call);
     }

@@ -78,8 +78,9 @@ static void try_random_prices(Plain *plain, const LentStill *lent, Random *rando
 {
     size_t blocks = plain->still.levels_len / POSITIONS;
     for (unsigned i = 0; i < count; i++) {
-        uint64_t greatest = one_in(random, 2) ? 300 : GREATEST_B;
-        try_price(plain, lent, any_size(random, GREATEST_A - 1) + 1, any_size(random, greatest), blocks, random);
+        uint64_t a = any_size(random, GREATEST_A - 1) + 1;
+        uint64_t b = any_size(random, one_in(random, 2) ? 300 : GREATEST_B);
+        try_price(plain, lent, a, b, blocks, random);
     }
 }
 
@@ -162,7 +163,7 @@ static void large_stills(Options options)
 {
     static const size_t blocks[] = {1, 16, 256, MOST_BLOCKS};
     tally_begin("price: large stills, by the dynamic programme");
-    for (size_t size = 0; size < 4; size++)
+    for (size_t size = 0; size < large_sizes(options); size++)
         for (Large kind = 0; kind < LARGE_KINDS; kind++) {
             Random random = random_of(options.seed, 1000 * kind + blocks[size]);
             Made made = made_large(kind, blocks[size], &random);
@@ -205,8 +206,9 @@ static void draw_keep(const Made *made, uint64_t *keep, Random *random)
                 nonzero |= UINT64_C(1) << k;
         keep[block] = kind == 0 ? nonzero : kind == 1 ? 0 : nonzero & draw(random);
     }
+    size_t block = below(random, made->blocks);
     if (kind == 3)
-        keep[below(random, made->blocks)] |= UINT64_C(1) << below(random, POSITIONS);
+        keep[block] |= UINT64_C(1) << below(random, POSITIONS);
 }
 
 static void thinning(Options options)
@@ -214,9 +216,9 @@ static void thinning(Options options)
     tally_begin("thinning: small and large stills");
     for (uint64_t serial = 0; serial < options.count; serial++) {
         Random random = random_of(options.seed, serial);
-        bool large = serial % 100 == 0;
-        Made made = large ? made_large((Large)below(&random, LARGE_KINDS), (size_t)between(&random, 1, MOST_BLOCKS), &random)
-                          : made_small(&random);
+        size_t blocks = (size_t)between(&random, 1, MOST_BLOCKS);
+        Made made = serial % 100 > 0 ? made_small(&random)
+                                     : made_large((Large)below(&random, LARGE_KINDS), blocks, &random);
         uint64_t *keep = room_for(made.blocks, sizeof *keep);
         tally_case("still %ju", (uintmax_t)serial);
         for (unsigned i = 0; i < 4; i++) {

@@ -49,9 +49,10 @@ static void compare_ways(uint64_t seed, uint64_t count)
         tally_case("still %ju", (uintmax_t)serial);
         compare_ways_at(&definition, &programme, 1, 0);
         compare_ways_at(&definition, &programme, 1, GREATEST_B);
-        for (unsigned i = 0; i < 10; i++)
-            compare_ways_at(&definition, &programme, any_size(&random, GREATEST_A - 1) + 1,
-                            any_size(&random, one_in(&random, 2) ? 1000 : GREATEST_B));
+        for (unsigned i = 0; i < 10; i++) {
+            uint64_t a = any_size(&random, GREATEST_A - 1) + 1;
+            compare_ways_at(&definition, &programme, a, any_size(&random, one_in(&random, 2) ? 1000 : GREATEST_B));
+        }
         if (sound(&made))
             compare_stops(&definition, &programme);
         plain_done(&definition);
@@ -140,17 +141,24 @@ static size_t search_prices(Pairs pairs, Pair *found)
     return count;
 }
 
+static Made made_tiny(Random *random)
+{
+    Made made = made_zero((size_t)between(random, 1, 2), 1);
+    for (size_t entry = 0; entry < LENGTHS; entry++)
+        made.lengths[entry] = (uint8_t)between(random, 1, 5);
+    for (size_t i = 0; i < 3 * made.blocks; i++) {
+        size_t k = (size_t)between(random, 1, 20);
+        made.levels[POSITIONS * (i / 3) + k] = (int16_t)between(random, 1, 3);
+    }
+    return made;
+}
+
 static void compare_direct_search(uint64_t seed, uint64_t count)
 {
     tally_begin("corners are those that a direct search over prices finds");
     for (uint64_t serial = 0; serial < count; serial++) {
         Random random = random_of(seed, serial);
-        Made made = made_zero((size_t)between(&random, 1, 2), 1);
-        for (size_t entry = 0; entry < LENGTHS; entry++)
-            made.lengths[entry] = (uint8_t)between(&random, 1, 5);
-        for (size_t block = 0; block < made.blocks; block++)
-            for (unsigned i = 0; i < 3; i++)
-                made.levels[POSITIONS * block + (size_t)between(&random, 1, 20)] = (int16_t)between(&random, 1, 3);
+        Made made = made_tiny(&random);
         Plain plain = plain_of(made_still(&made), BY_DEFINITION);
         plain_stops(&plain);
         Pairs pairs = attainable(plain.choices, made.blocks), corners = corners_of(pairs);
@@ -170,7 +178,37 @@ static void compare_direct_search(uint64_t seed, uint64_t count)
 
 /* ---- What the list has to be good for. ---- */
 
-/* An accepted price gives a corner; the price of the way on from a corner gives that corner. */
+static void price_gives_corner(Plain *plain, uint64_t a, uint64_t b)
+{
+    const Stops *stops = plain_stops(plain);
+    uint64_t keep[4] = {0}, expected[4] = {0};
+    Answer told = plain_price(plain, a, b, keep, plain->still.levels_len / POSITIONS);
+    size_t corner = 0;
+    while (corner + 1 < stops->count && stops->corners[corner].bits != told.first)
+        corner++;
+    Point point = stops->corners[corner];
+    stops_keep(stops, corner, expected);
+    tally(point.bits == told.first && point.error == told.second && point.kept == told.third &&
+              memcmp(keep, expected, sizeof keep) == 0,
+          "price %ju %ju gives no corner", (uintmax_t)a, (uintmax_t)b);
+}
+
+/* The price of the way on from a corner gives that corner, since equal costs go to fewer bits. */
+static void corner_has_price(Plain *plain, size_t corner)
+{
+    const Stops *stops = plain_stops(plain);
+    Point here = stops->corners[corner];
+    uint64_t a = 1, b = 0, keep[4];
+    if (corner + 1 < stops->count) {
+        a = stops->corners[corner + 1].bits - here.bits;
+        b = here.error - stops->corners[corner + 1].error;
+    }
+    if (b > GREATEST_B)
+        return; /* several blocks of equal slope; one block's part of the way would have the same slope */
+    Answer told = plain_price(plain, a, b, keep, plain->still.levels_len / POSITIONS);
+    tally(told.first == here.bits && told.second == here.error, "corner %zu has no price", corner);
+}
+
 static void compare_demands(uint64_t seed, uint64_t count)
 {
     tally_begin("every accepted price gives a corner, every corner has an accepted price");
@@ -178,32 +216,13 @@ static void compare_demands(uint64_t seed, uint64_t count)
         Random random = random_of(seed, serial);
         Made made = made_sound(&random);
         Plain plain = plain_of(made_still(&made), BY_DEFINITION);
-        const Stops *stops = plain_stops(&plain);
-        uint64_t keep[4], expected[4] = {0};
         tally_case("still %ju", (uintmax_t)serial);
         for (unsigned i = 0; i < 10; i++) {
-            uint64_t a = any_size(&random, GREATEST_A - 1) + 1, b = any_size(&random, GREATEST_B);
-            Answer told = plain_price(&plain, a, b, keep, made.blocks);
-            size_t corner = 0;
-            while (corner + 1 < stops->count && stops->corners[corner].bits != told.first)
-                corner++;
-            stops_keep(stops, corner, expected);
-            tally(stops->corners[corner].bits == told.first && stops->corners[corner].error == told.second &&
-                      stops->corners[corner].kept == told.third && memcmp(keep, expected, made.blocks * 8) == 0,
-                  "price %ju %ju gives no corner", (uintmax_t)a, (uintmax_t)b);
+            uint64_t a = any_size(&random, GREATEST_A - 1) + 1;
+            price_gives_corner(&plain, a, any_size(&random, GREATEST_B));
         }
-        for (size_t corner = 0; corner < stops->count; corner++) {
-            uint64_t a = 1, b = 0;
-            if (corner + 1 < stops->count) {
-                a = stops->corners[corner + 1].bits - stops->corners[corner].bits;
-                b = stops->corners[corner].error - stops->corners[corner + 1].error;
-            }
-            if (b > GREATEST_B)
-                continue; /* several blocks of equal slope; a part of the way has the same slope */
-            Answer told = plain_price(&plain, a, b, keep, made.blocks);
-            tally(told.first == stops->corners[corner].bits && told.second == stops->corners[corner].error,
-                  "corner %zu has no price", corner);
-        }
+        for (size_t corner = 0; corner < plain_stops(&plain)->count; corner++)
+            corner_has_price(&plain, corner);
         plain_done(&plain);
         made_done(&made);
     }
@@ -384,7 +403,7 @@ int main(int count, char **arguments)
         print_k5();
         return 0;
     }
-    uint64_t stills = count > 1 ? strtoull(arguments[1], NULL, 10) : 4000;
+    uint64_t stills = count > 1 ? strtoull(arguments[1], NULL, 10) : 20000;
     uint64_t seed = count > 2 ? strtoull(arguments[2], NULL, 10) : 1;
     printf("the independent implementation by itself: %ju stills, seed %ju\n", (uintmax_t)stills, (uintmax_t)seed);
     compare_ways(seed, stills);

@@ -50,20 +50,23 @@ static void small_steps(Random *random, uint8_t *steps)
         steps[k] = (uint8_t)(kind >= 3 ? greatest[kind] : between(random, 1, greatest[kind]));
 }
 
+static int16_t signed_level(Random *random, int64_t level)
+{
+    return (int16_t)(one_in(random, 2) ? level : -level);
+}
+
 static int16_t small_level(Random *random, uint64_t kind)
 {
-    int64_t level = 1;
+    int64_t level = 1, less = between(random, 0, 1);
     if (kind == 1)
         level = between(random, 1, 3);
     else if (kind == 2)
         level = between(random, 1, GREATEST_LEVEL);
     else if (kind == 3) /* the ends of the sizes */
-        level = (INT64_C(1) << below(random, 10)) * between(random, 1, 2) - between(random, 0, 1);
+        level = (INT64_C(1) << between(random, 1, 10)) - less;
     else if (kind == 4)
         level = GREATEST_LEVEL;
-    if (level < 1 || level > GREATEST_LEVEL)
-        level = GREATEST_LEVEL;
-    return (int16_t)(one_in(random, 2) ? level : -level);
+    return signed_level(random, level > GREATEST_LEVEL ? GREATEST_LEVEL : level);
 }
 
 static unsigned small_position(Random *random, uint64_t kind, unsigned count)
@@ -81,8 +84,10 @@ static void small_block(Random *random, int16_t *levels, unsigned most, uint64_t
     uint64_t position_kind = below(random, 3);
     unsigned count = (unsigned)below(random, most + 1);
     levels[0] = (int16_t)draw(random);
-    for (unsigned i = 0; i < count; i++)
-        levels[small_position(random, position_kind, i)] = small_level(random, level_kind);
+    for (unsigned i = 0; i < count; i++) {
+        unsigned k = small_position(random, position_kind, i);
+        levels[k] = small_level(random, level_kind);
+    }
     if (count > 0 && one_in(random, 4)) {
         /* move one to the last position */
         unsigned k = LAST;
@@ -219,7 +224,7 @@ Made made_large(Large kind, size_t blocks, Random *random)
         else if (kind == LARGE_EQUAL && i >= POSITIONS)
             made.levels[i] = made.levels[k];
         else
-            made.levels[i] = (int16_t)(large_level(kind, random, k) * (one_in(random, 2) ? 1 : -1));
+            made.levels[i] = signed_level(random, large_level(kind, random, k));
     }
     return made;
 }
