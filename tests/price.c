@@ -47,6 +47,17 @@ static void try_thin(const int16_t *levels, size_t levels_len, const uint64_t *k
 
 /* ---- Prices that matter. ---- */
 
+/* The largest numbers next to that price, on both sides: the costs are large and differ by very little. */
+static void try_finest(Plain *plain, const LentStill *lent, uint64_t run, uint64_t fall, Random *random)
+{
+    size_t blocks = plain->still.levels_len / POSITIONS;
+    Cost most = (Cost)GREATEST_B * run / fall;
+    uint64_t a = most < GREATEST_A ? (uint64_t)most : GREATEST_A;
+    uint64_t b = (uint64_t)((Cost)fall * a / run);
+    try_price(plain, lent, a, b, blocks, random);
+    try_price(plain, lent, a, b + 1, blocks, random);
+}
+
 /* The prices at and beside the one that makes two pairs cost the same. */
 static void try_near(Plain *plain, const LentStill *lent, Pair left, Pair right, Random *random)
 {
@@ -63,6 +74,7 @@ static void try_near(Plain *plain, const LentStill *lent, Pair left, Pair right,
     try_price(plain, lent, a, b - 1, blocks, random);
     try_price(plain, lent, a, b + 1, blocks, random);
     try_price(plain, lent, a - 1, b, blocks, random);
+    try_finest(plain, lent, run, fall, random);
 }
 
 static void try_ends(Plain *plain, const LentStill *lent, Random *random)

@@ -5,7 +5,7 @@
 #include <string.h>
 
 const char *const large_names[LARGE_KINDS] = {"random",   "falling",   "ones", "greatest",  "longest", "equal",
-                                              "parallel", "collinear", "gaps", "photograph"};
+                                              "parallel", "collinear", "gaps", "forced",    "photograph"};
 
 Still made_still(const Made *made)
 {
@@ -157,11 +157,13 @@ static int64_t large_step(Large kind, Random *random, unsigned k)
         return between(random, 1, 255);
     if (kind == LARGE_FALLING || kind == LARGE_PHOTOGRAPH)
         return 10 + k;
-    return kind == LARGE_GREATEST || kind == LARGE_LONGEST ? 255 : 10;
+    return kind == LARGE_GREATEST || kind == LARGE_LONGEST || kind == LARGE_FORCED ? 255 : 10;
 }
 
-static int64_t large_length(Large kind, Random *random, uint8_t k5)
+static int64_t large_length(Large kind, Random *random, size_t entry, uint8_t k5)
 {
+    if (kind == LARGE_FORCED && entry % 16 == 10)
+        return 0;
     if (kind == LARGE_COLLINEAR)
         return 4;
     if (kind == LARGE_LONGEST)
@@ -184,6 +186,8 @@ static int64_t large_level(Large kind, Random *random, unsigned k)
     case LARGE_GREATEST:
     case LARGE_LONGEST:
         return GREATEST_LEVEL;
+    case LARGE_FORCED:
+        return one_in(random, 4) ? between(random, 1, 20) : GREATEST_LEVEL;
     case LARGE_PHOTOGRAPH:
         return below(random, 63) < k * 4 ? 0 : (int64_t)any_size(random, 60) / k + 1;
     case LARGE_COLLINEAR:
@@ -214,7 +218,7 @@ Made made_large(Large kind, size_t blocks, Random *random)
     for (unsigned k = 0; k < POSITIONS; k++)
         made.steps[k] = (uint8_t)large_step(kind, random, k);
     for (size_t entry = 0; entry < LENGTHS; entry++)
-        made.lengths[entry] = (uint8_t)large_length(kind, random, made.lengths[entry]);
+        made.lengths[entry] = (uint8_t)large_length(kind, random, entry, made.lengths[entry]);
     if (made.lengths[END_OF_BLOCK] == 0)
         made.lengths[END_OF_BLOCK] = 3;
     for (size_t i = 0; i < POSITIONS * blocks; i++) {

@@ -23,6 +23,7 @@ typedef enum {
     LARGE_PARALLEL,   /* one level a block, of equal slope but unequal size */
     LARGE_COLLINEAR,  /* every level adds the same bits and removes the same error */
     LARGE_GAPS,       /* a random table with codes missing */
+    LARGE_FORCED,     /* the greatest levels have no code: great costs that differ by little */
     LARGE_PHOTOGRAPH, /* few nonzero levels, at the front, small */
     LARGE_KINDS
 } Large;
