@@ -221,7 +221,7 @@ static void random_bytes(Options options)
 {
     static uint8_t packet[PACKET_ROOM];
     tally_begin("head-end: random bytes");
-    for (uint64_t serial = 0; serial < options.count; serial++) {
+    for (uint64_t serial = 0; serial < options.count / 3; serial++) {
         Random random = random_of(options.seed, serial);
         uint64_t kind = below(&random, 8);
         size_t blocks = (size_t)between(&random, 1, one_in(&random, 100) ? MOST_PACKED : 4);
