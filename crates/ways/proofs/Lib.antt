@@ -1,0 +1,4 @@
+pub mod Chosen
+pub mod Remembering
+pub mod Seeking
+pub mod Knowing
