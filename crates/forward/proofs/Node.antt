@@ -15,7 +15,7 @@ use Rattle.price.specs.Price.{Accepted}
 use Rattle.price.specs.Best.{cost, Before}
 use Rattle.forward.specs.Given.{Met, Entry, Given}
 use Rattle.forward.specs.Chain.{top, Chain, Coded, sum, miss, stem}
-use Rattle.forward.specs.Scanning.{FAR, costAt, bitAt, Span, Earliest, Earliest.none as e-none, Earliest.some as e-some, Reduced, Trail, Node, Node.none as n-none, Node.some as n-some}
+use Rattle.forward.specs.Scanning.{FAR, costAt, bitAt, Span, Sums, Earliest, Earliest.none as e-none, Earliest.some as e-some, Reduced, Trail, Node, Node.none as n-none, Node.some as n-some}
 use Rattle.forward.proofs.Chain.{extend, extend-none, miss-more, sum-most}
 use Rattle.forward.proofs.Winner.{fits, Winner, Winner.none as w-none, Winner.some as w-some, winner}
 
@@ -84,19 +84,20 @@ module _ (B : Block) (a b m total : ℕ) (price : Accepted a b) (place sizes err
             fits B a b (G .limits) price r 0 (c .chain) (omega (arith, c .ends, G .gathered .under j g)) in
             (omega (arith, f .0), omega (arith, f .1))
 
-    pub span-of : (at : ℕ) → i ≤ m + 1 → length costs ≡ 64 → length sums ≡ 64 → at < 704 → ((j : ℕ) → j < i → getD place j 0 ≤ at) → Span b i at place costs sums bits
-    span-of at h p q l w =
+    pub sums-of : i ≤ m + 1 → length sums ≡ 64 → Sums i sums
+    sums-of h q = record { long = q; most = λ j g. node-most j g (omega arith) .1 }
+
+    pub span-of : (at : ℕ) → i ≤ m + 1 → length costs ≡ 64 → at < 704 → ((j : ℕ) → j < i → getD place j 0 ≤ at) → Span b i at place costs bits
+    span-of at h p l w =
         record {
           b-most = price .b-high;
           most = omega (arith, G .gathered .most);
           place-long = G .gathered .place-long;
           cost-long = p;
-          sum-long = q;
           bits-long = G .table .long;
           at-most = l;
           reach = w;
           cost-most = λ j g. node-most j g (omega arith) .0;
-          sum-most = λ j g. node-most j g (omega arith) .1;
           bits-most = G .table .most;
         }
 
@@ -117,8 +118,8 @@ module _ (B : Block) (a b m total : ℕ) (price : Accepted a b) (place sizes err
       at-size : at ≡ B .size k * 64 + k - 1
       at-size = at-is ∙ ap (λ (s : ℕ). s * 64 + k - 1) (G .gathered .size-is i low high)
 
-      pub level-span : length costs ≡ 64 → length sums ≡ 64 → Span b i at place costs sums bits
-      level-span p q = span-of at (omega arith) p q (omega (arith, at-size, under, G .limits .size-most k)) (λ j h. omega (arith, at-size, before j h))
+      pub level-span : length costs ≡ 64 → Span b i at place costs bits
+      level-span p = span-of at (omega arith) p (omega (arith, at-size, under, G .limits .size-most k)) (λ j h. omega (arith, at-size, before j h))
 
       abbrev Q : ℕ → Type 0
       Q q = LevelCode (B .len) (k - q - 1) (B .size k)

@@ -18,10 +18,10 @@ use Rattle.forward.specs.declared.Decision.the-variants as decision
 use Rattle.forward.specs.Decision.{OfBest}
 use Rattle.forward.specs.Given.{Given, Job, Decided, Room}
 use Rattle.forward.specs.Chain.{top, Chain, Coded, miss, stem, Candidate}
-use Rattle.forward.specs.Scanning.{FAR, costAt, bitAt, Span, Earliest, Reduced, Trail, Node, Node.some as n-some, Nodes, gain, Backed, Walked, Walks}
+use Rattle.forward.specs.Scanning.{FAR, costAt, bitAt, Span, Sums, Earliest, Reduced, Trail, Node, Node.some as n-some, Nodes, gain, Backed, Walked, Walks}
 use Rattle.forward.proofs.Chain.{start, finish, finish-none, onto, endBits, way-onto, miss-more, keep-under}
 use Rattle.forward.proofs.Winner.{Winner, Winner.none as w-none, Winner.some as w-some, winner}
-use Rattle.forward.proofs.Node.{ends-at, Ends, span-of, level-span, reduces, node-next}
+use Rattle.forward.proofs.Node.{ends-at, Ends, sums-of, span-of, level-span, reduces, node-next}
 
 start-cost : (a b x y : ℕ) → x ≡ y → a * x + b * 0 ≡ a * (0 + y) + b * (0 + 0)
 start-cost a b x y e = omega (arith, ap (λ (x : ℕ). a * x) e)
@@ -54,8 +54,11 @@ module _ {a b m total : ℕ} {place sizes errors bits : List ℕ} where
           (getD-set-same sums 0 0 0 (omega (arith, r .second))))
 
   module _ {costs sums preds : List ℕ} {i : ℕ} (price : Accepted a b) (J : Job m total place sizes errors bits) (N : Nodes a b m total place sizes errors bits costs sums preds i) where
-    pub nodes-span : 0 < i → i ≤ m → Span b i (entryOf sizes place i) place costs sums bits
-    nodes-span h g = level-span (J .block) a b m total price place sizes errors bits (J .given) costs sums preds i (N .nodes (J .block) (J .given)) _ h g refl (N .cost-long) (N .sum-long)
+    pub nodes-sums : i ≤ m + 1 → Sums i sums
+    nodes-sums h = sums-of (J .block) a b m total price place sizes errors bits (J .given) costs sums preds i (N .nodes (J .block) (J .given)) h (N .sum-long)
+
+    pub nodes-span : 0 < i → i ≤ m → Span b i (entryOf sizes place i) place costs bits
+    nodes-span h g = level-span (J .block) a b m total price place sizes errors bits (J .given) costs sums preds i (N .nodes (J .block) (J .given)) _ h g refl (N .cost-long)
 
     module _ {best j : ℕ} (low : 0 < i) (high : i ≤ m) (E : Earliest (costAt b (entryOf sizes place i) place costs bits) (bitAt (entryOf sizes place i) place sums bits) i best j) where
       pub nodes-reduce : best < FAR → a * getD errors i 0 ≤ best
@@ -93,9 +96,9 @@ module _ (B : Block) (a b m total : ℕ) (price : Accepted a b) (place sizes err
     abbrev Q : ℕ → Type 0
     Q q = q < 63 → 0 < B .len 0
 
-    pub end-span : length costs ≡ 64 → length sums ≡ 64 → Span b (m + 1) 63 place costs sums bits
-    end-span p q =
-        span-of B a b m total price place sizes errors bits G costs sums preds (m + 1) N 63 (omega arith) p q (omega arith)
+    pub end-span : length costs ≡ 64 → Span b (m + 1) 63 place costs bits
+    end-span p =
+        span-of B a b m total price place sizes errors bits G costs sums preds (m + 1) N 63 (omega arith) p (omega arith)
         (λ j h. omega (arith, G .gathered .under j (omega arith)))
 
     end-winner : (best j : ℕ) → Earliest (costAt b 63 place costs bits) (bitAt 63 place sums bits) (m + 1) best j
@@ -160,8 +163,8 @@ module _ (B : Block) (a b m total : ℕ) (price : Accepted a b) (place sizes err
             W = k r t
 
 module _ {a b m total : ℕ} {place sizes errors bits costs sums preds : List ℕ} (price : Accepted a b) (N : Nodes a b m total place sizes errors bits costs sums preds (m + 1)) where
-  pub search-span : Job m total place sizes errors bits → Span b (m + 1) 63 place costs sums bits
-  search-span J = end-span (J .block) a b m total price place sizes errors bits (J .given) costs sums preds (N .nodes (J .block) (J .given)) (N .cost-long) (N .sum-long)
+  pub search-span : Job m total place sizes errors bits → Span b (m + 1) 63 place costs bits
+  search-span J = end-span (J .block) a b m total price place sizes errors bits (J .given) costs sums preds (N .nodes (J .block) (J .given)) (N .cost-long)
 
   module _ {best j : ℕ} (E : Earliest (costAt b 63 place costs bits) (bitAt 63 place sums bits) (m + 1) best j) where
     pub search-none : best ≡ FAR → Decided a b m total place sizes errors bits decision.Nothing

@@ -13,7 +13,7 @@ use Rattle.price.specs.Price.{mostOnBits}
 use Rattle.forward.specs.declared.Quick.{Quick}
 use Rattle.forward.specs.declared.Exact.{Exact}
 use Rattle.forward.specs.Given.{NO, isFull}
-use Rattle.forward.specs.Scanning.{FAR, costAt, bitAt, Span, Weighed, Weighed.better as w-better, Weighed.same as w-same, Weighed.worse as w-worse, Compared, Compared.better as x-better, Compared.shorter as x-shorter, Compared.dearer as x-dearer, Compared.longer as x-longer, Ahead, Ahead.cheaper, Ahead.shorter, Ahead.earlier, Earliest, Earliest.none as e-none, Earliest.some as e-some}
+use Rattle.forward.specs.Scanning.{FAR, costAt, bitAt, Span, Sums, Weighed, Weighed.better as w-better, Weighed.same as w-same, Weighed.worse as w-worse, Compared, Compared.better as x-better, Compared.shorter as x-shorter, Compared.dearer as x-dearer, Compared.longer as x-longer, Ahead, Ahead.cheaper, Ahead.shorter, Ahead.earlier, Earliest, Earliest.none as e-none, Earliest.some as e-some}
 use Rattle.forward.proofs.Pricing.{priced-most, full-priced}
 
 -- by cost alone
@@ -122,12 +122,12 @@ module _ (c n : ℕ → ℕ) where
   held-end s k i (some a f e g l) q = subst (λ (i : ℕ). Earliest c n i (s .cost) (s .at)) q (e-some a f e l)
 
 -- what keeps the sums of a scan within 64 bits
-module _ {b i at : ℕ} {place costs sums bits : List ℕ} (s : Span b i at place costs sums bits) (j : ℕ) (h : j < i) where
+module _ {b i at : ℕ} {place costs bits : List ℕ} (s : Span b i at place costs bits) (j : ℕ) (h : j < i) where
   pub span-cost : costAt b at place costs bits j ≤ FAR + FAR
   span-cost = omega (arith, s .cost-most j h, priced-most b (getD bits (at - getD place j 0) 0) (s .b-most) (s .bits-most (at - getD place j 0)))
 
-  pub span-bit : bitAt at place sums bits j ≤ 6144
-  span-bit = omega (arith, s .sum-most j h, s .bits-most (at - getD place j 0))
+  pub span-bit : {sums : List ℕ} → Sums i sums → bitAt at place sums bits j ≤ 6144
+  span-bit t = omega (arith, t .most j h, s .bits-most (at - getD place j 0))
 
   pub span-product : b * getD bits (at - getD place j 0) 0 ≤ mostOnBits * NO
   span-product = mul-le-mul (s .b-most) (s .bits-most (at - getD place j 0))

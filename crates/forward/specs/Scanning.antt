@@ -30,19 +30,21 @@ costAt b at place costs bits j = getD costs j 0 + priced b (getD bits (at - getD
 abbrev pub bitAt : ℕ → List ℕ → List ℕ → List ℕ → ℕ → ℕ
 bitAt at place sums bits j = getD sums j 0 + getD bits (at - getD place j 0) 0
 
--- what makes the reads and sums of a scan of i nodes sound
-pub record Span (b i at : ℕ) (place costs sums bits : List ℕ) : Type 0 where
+-- what makes the reads and sums of a scan of i nodes sound, by cost and by bits
+pub record Span (b i at : ℕ) (place costs bits : List ℕ) : Type 0 where
   pub b-most : b ≤ mostOnBits
   pub most : i ≤ 64
   pub place-long : length place ≡ 64
   pub cost-long : length costs ≡ 64
-  pub sum-long : length sums ≡ 64
   pub bits-long : length bits ≡ 704
   pub at-most : at < 704
   pub reach : (j : ℕ) → j < i → getD place j 0 ≤ at
   pub cost-most : (j : ℕ) → j < i → getD costs j 0 ≤ FAR
-  pub sum-most : (j : ℕ) → j < i → getD sums j 0 ≤ 4096
   pub bits-most : (x : ℕ) → getD bits x 0 ≤ NO
+
+pub record Sums (i : ℕ) (sums : List ℕ) : Type 0 where
+  pub long : length sums ≡ 64
+  pub most : (j : ℕ) → j < i → getD sums j 0 ≤ 4096
 
 -- one turn of a scan: by cost alone, and by cost and bits
 pub data Weighed (s : Quick) (c j : ℕ) (r : Quick) : Type 0 where
@@ -66,6 +68,10 @@ pub data Ahead (c n i d m j : ℕ) : Type 0 where
 pub data Earliest (c n : ℕ → ℕ) (i best at : ℕ) : Type 0 where
   none : best ≡ FAR → at ≡ 0 → ((j : ℕ) → j < i → FAR ≤ c j) → Earliest c n i best at
   some : at < i → best < FAR → best ≡ c at → ((j : ℕ) → j < i → Ahead (c at) (n at) at (c j) (n j) j) → Earliest c n i best at
+
+-- what a scan by cost alone answers: without a tie it has found the first, whatever the bits are
+pub record Sole (b i at : ℕ) (place costs bits : List ℕ) (r : Quick) : Type 0 where
+  pub first : r .tie ≡ 0 → (n : ℕ → ℕ) → Earliest (costAt b at place costs bits) n i (r .cost) (r .at)
 
 -- a cost with a level's error taken off; none stays none
 pub record Reduced (c a d r : ℕ) : Type 0 where

@@ -6,7 +6,7 @@ ghost use mathlib.Core.Path.{_≡_};
 ghost use Prim.Native.Nat.{_+_, _*_, _≤_, _<_};
 ghost use Rattle.price.specs.Price.{Accepted, mostOnBits};
 ghost use Rattle.forward.specs.Given.{NO, isFull, Job, Decided, Room};
-ghost use Rattle.forward.specs.Scanning.{FAR, priced, costAt, bitAt, Span, Weighed, Compared, Earliest, Reduced, Nodes, Backed, Walks};
+ghost use Rattle.forward.specs.Scanning.{FAR, priced, costAt, bitAt, Span, Sums, Weighed, Compared, Earliest, Sole, Reduced, Nodes, Backed, Walks};
 
 // The mark of no cost.
 const FAR: u64 = 4611686018427387904;
@@ -115,7 +115,8 @@ fn least_exact(
     sum: &[u64],
     bits: &[u64],
 ) -> Low
-    requires { ⌜ Span b i at (now place) (now cost) (now sum) (now bits) ⌝ }
+    requires { ⌜ Span b i at (now place) (now cost) (now bits) ⌝ }
+    requires { ⌜ Sums i (now sum) ⌝ }
     ensures { λ r. ⌜ Earliest (costAt b at (now (place .entry)) (now (cost .entry)) (now (bits .entry))) (bitAt at (now (place .entry)) (now (sum .entry)) (now (bits .entry))) i (r .cost) (r .at) ⌝ }
 {
     let mut s = Exact {
@@ -135,23 +136,26 @@ fn least_exact(
     }
 }
 
-// The same. Where no code is missing, it looks at bits only if the least cost is met twice.
-fn least(
+// The same by cost alone, which is right if no tie is left. Where a code is missing there is no scan, and a tie is told.
+fn scan(
     full: bool,
     b: u64,
     i: usize,
     at: usize,
     place: &[usize],
     cost: &[u64],
-    sum: &[u64],
     bits: &[u64],
-) -> Low
-    requires { ⌜ Span b i at (now place) (now cost) (now sum) (now bits) ⌝ }
+) -> Quick
+    requires { ⌜ Span b i at (now place) (now cost) (now bits) ⌝ }
     requires { ⌜ full ≡ isFull (now bits) ⌝ }
-    ensures { λ r. ⌜ Earliest (costAt b at (now (place .entry)) (now (cost .entry)) (now (bits .entry))) (bitAt at (now (place .entry)) (now (sum .entry)) (now (bits .entry))) i (r .cost) (r .at) ⌝ }
+    ensures { λ r. ⌜ Sole b i at (now (place .entry)) (now (cost .entry)) (now (bits .entry)) r ⌝ }
 {
     if !full {
-        return least_exact(b, i, at, place, cost, sum, bits);
+        return Quick {
+            cost: FAR,
+            at: 0,
+            tie: 1,
+        };
     }
     let mut s = Quick {
         cost: FAR,
@@ -164,6 +168,26 @@ fn least(
         s = weigh(s, c, j);
         j += 1;
     }
+    s
+}
+
+// The first of the nodes below i to go on from. Bits are looked at only if the least cost is met twice.
+fn least(
+    full: bool,
+    b: u64,
+    i: usize,
+    at: usize,
+    place: &[usize],
+    cost: &[u64],
+    sum: &[u64],
+    bits: &[u64],
+) -> Low
+    requires { ⌜ Span b i at (now place) (now cost) (now bits) ⌝ }
+    requires { ⌜ Sums i (now sum) ⌝ }
+    requires { ⌜ full ≡ isFull (now bits) ⌝ }
+    ensures { λ r. ⌜ Earliest (costAt b at (now (place .entry)) (now (cost .entry)) (now (bits .entry))) (bitAt at (now (place .entry)) (now (sum .entry)) (now (bits .entry))) i (r .cost) (r .at) ⌝ }
+{
+    let s = scan(full, b, i, at, place, cost, bits);
     if s.tie == 0 {
         return Low {
             cost: s.cost,

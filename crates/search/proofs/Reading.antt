@@ -1,6 +1,6 @@
--- A level within its range is read back from its bits.
+-- A level as it is read from its bits.
 -- Assumes nothing.
-use mathlib.Core.Path.{_≡_, ap, _∙_, subst, refl}
+use mathlib.Core.Path.{_≡_, refl, sym, ap, subst, _∙_}
 use mathlib.Core.List.{List}
 use Prim.Native.Nat.{ℕ, zero, suc, _≤_, _<_}
 use native.Mathlib.Omega.{arith}
@@ -12,6 +12,15 @@ use Rattle.block.specs.Level.{acLevel}
 use Rattle.block.specs.Limits.{Levels}
 use Rattle.block.proofs.Level.{back}
 use Rattle.search.specs.Gathering.{Next}
+
+-- a level is 0 if its bits are
+pub zero-bits : {z : ℤ} → SFits w16 z → ofZ w16 z ≡ 0 → natAbs z ≡ 0
+zero-bits f e = ap natAbs (sym (back f) ∙ ap (toZ w16) e)
+
+pub other-bits : (z : ℤ) → (ofZ w16 z ≡ 0 → ⊥) → 0 < natAbs z
+other-bits (pos zero) h = absurd (h refl)
+other-bits (pos (suc n)) h = omega arith
+other-bits (negsuc n) h = omega arith
 
 in-range : (z : ℤ) → natAbs z ≤ 1023 → SFits w16 z
 in-range (pos n) h = record { sfits = omega arith }

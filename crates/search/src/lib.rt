@@ -114,8 +114,7 @@ fn next_of(v: i16, m: usize) -> usize
     requires { ⌜ m < 64 ⌝ }
     ensures { λ r. ⌜ Next (natAbs v) m r ⌝ }
 {
-    let n = magnitude(v);
-    if n == 0 {
+    if v == 0 {
         return m;
     }
     m + 1

@@ -3,10 +3,10 @@
 use Prim.Native.Nat.{_+_, _-_, _*_, _≤_, _<_}
 use native.Mathlib.Omega.{arith}
 use lib.ListN.{getD}
-use Rattle.forward.specs.Scanning.{Span, Nodes}
+use Rattle.forward.specs.Scanning.{Span, Sums, Nodes}
 use Rattle.forward.proofs.Scanning.{span-bit}
 use Rattle.forward.proofs.Node.{earliest-under, earliest-most}
-use Rattle.forward.proofs.Nodes.{total-most, index-most, nodes-start, nodes-span, nodes-reduce, nodes-next, nodes-end}
+use Rattle.forward.proofs.Nodes.{total-most, index-most, nodes-start, nodes-sums, nodes-span, nodes-reduce, nodes-next, nodes-end}
 use Rattle.forward.proofs.fill.Statement.{statement}
 use Rattle.forward.proofs.fill.Tie as tie
 
@@ -28,8 +28,11 @@ index : (t : tie.In-loop Inv-loop μ-loop)
 index t = index-most (start t .pre .1 .1 .0) _ (t .before .loop .inv .0) (t .loop-test .taken)
 
 span : (t : tie.In-loop Inv-loop μ-loop)
-    → Span (start t .args .price .b) (t .before .loop .i) (getD (start t .args .size .now) (t .before .loop .i) 0 * 64 + getD (start t .args .place .now) (t .before .loop .i) 0 - 1) (start t .args .place .now) (t .before .loop .cost) (t .before .loop .sum) (start t .args .bits .now)
+    → Span (start t .args .price .b) (t .before .loop .i) (getD (start t .args .size .now) (t .before .loop .i) 0 * 64 + getD (start t .args .place .now) (t .before .loop .i) 0 - 1) (start t .args .place .now) (t .before .loop .cost) (start t .args .bits .now)
 span t = nodes-span (start t .pre .0) (start t .pre .1 .1 .0) (t .before .loop .inv .2) (t .before .loop .inv .0) (t .loop-test .taken)
+
+sums : (t : tie.In-loop Inv-loop μ-loop) → Sums (t .before .loop .i) (t .before .loop .sum)
+sums t = nodes-sums (start t .pre .0) (start t .pre .1 .1 .0) (t .before .loop .inv .2) (t .before .loop .inv .1)
 
 -- the node that it goes on from
 from : (c : tie.After-least Inv-loop μ-loop) → c .least .result .at < c .before .before .before .before .before .before .loop .i
@@ -69,7 +72,7 @@ sub-at : tie.Need-sub-at Inv-loop μ-loop
 sub-at c = omega (arith, index (c .before .before))
 
 least-requires : tie.Need-least-requires Inv-loop μ-loop
-least-requires c κs = (span (c .before .before .before .before), c .before .before .before .before .before .before .before .before .before .before .before .before .before .before .pre .1 .0)
+least-requires c κs = (span (c .before .before .before .before), (sums (c .before .before .before .before), c .before .before .before .before .before .before .before .before .before .before .before .before .before .before .pre .1 .0))
 
 mul-sum : tie.Need-mul-sum Inv-loop μ-loop
 mul-sum c = omega (arith, from c, inside (c .before .before .before .before .before))
@@ -93,7 +96,7 @@ shared-slice-read-sum-2 : tie.Need-shared-slice-read-sum-2 Inv-loop μ-loop
 shared-slice-read-sum-2 c = omega (arith, span (c .before .before .before .before .before .before .before .before) .at-most, span (c .before .before .before .before .before .before .before .before) .bits-long)
 
 add-sum : tie.Need-add-sum Inv-loop μ-loop
-add-sum c = omega (arith, span-bit (span (c .before .before .before .before .before .before .before .before)) _ (from (c .before .before .before)))
+add-sum c = omega (arith, span-bit (span (c .before .before .before .before .before .before .before .before)) _ (from (c .before .before .before)) (sums (c .before .before .before .before .before .before .before .before)))
 
 mul-sum-4 : tie.Need-mul-sum-4 Inv-loop μ-loop
 mul-sum-4 c = omega (arith, inside (c .before .before .before .before .before .before .before .before))

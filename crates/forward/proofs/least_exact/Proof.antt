@@ -23,7 +23,7 @@ shared-slice-read-n : tie.Need-shared-slice-read-n Inv-loop μ-loop
 shared-slice-read-n c = omega arith
 
 sub-n : tie.Need-sub-n Inv-loop μ-loop
-sub-n c = c .before .before .before .before .before .before .before .pre .reach _ (c .before .loop-test .taken)
+sub-n c = c .before .before .before .before .before .before .before .pre .0 .reach _ (c .before .loop-test .taken)
 
 mul-n-2 : tie.Need-mul-n-2 Inv-loop μ-loop
 mul-n-2 c = omega arith
@@ -38,10 +38,10 @@ shared-slice-read-compare : tie.Need-shared-slice-read-compare Inv-loop μ-loop
 shared-slice-read-compare c = omega arith
 
 priced-requires : tie.Need-priced-requires Inv-loop μ-loop
-priced-requires c κs = (c .before .before .before .before .before .before .before .before .before .pre .b-most, c .before .before .before .before .before .before .before .before .before .pre .bits-most _)
+priced-requires c κs = (c .before .before .before .before .before .before .before .before .before .pre .0 .b-most, c .before .before .before .before .before .before .before .before .before .pre .0 .bits-most _)
 
 add-compare : tie.Need-add-compare Inv-loop μ-loop
-add-compare c = omega (arith, span-cost (c .before .before .before .before .before .before .before .before .before .before .pre) _ (c .before .before .before .before .loop-test .taken), c .priced .ensures)
+add-compare c = omega (arith, span-cost (c .before .before .before .before .before .before .before .before .before .before .pre .0) _ (c .before .before .before .before .loop-test .taken), c .priced .ensures)
 
 mul-compare-2 : tie.Need-mul-compare-2 Inv-loop μ-loop
 mul-compare-2 c = omega arith
@@ -50,7 +50,7 @@ shared-slice-read-compare-2 : tie.Need-shared-slice-read-compare-2 Inv-loop μ-l
 shared-slice-read-compare-2 c = omega arith
 
 add-compare-2 : tie.Need-add-compare-2 Inv-loop μ-loop
-add-compare-2 c = omega (arith, span-bit (c .before .before .before .before .before .before .before .before .before .before .before .pre) _ (c .before .before .before .before .before .loop-test .taken))
+add-compare-2 c = omega (arith, span-bit (c .before .before .before .before .before .before .before .before .before .before .before .pre .0) _ (c .before .before .before .before .before .loop-test .taken) (c .before .before .before .before .before .before .before .before .before .before .before .pre .1))
 
 compare-requires : tie.Need-compare-requires Inv-loop μ-loop
 compare-requires c κs = tt

@@ -1,12 +1,11 @@
 -- `forward::reduced` meets its contract: a cost that is not FAR is at least the error that is taken off.
 -- Assumes nothing.
-use borrow.Author.Needs.{needs}
 use native.Mathlib.Omega.{arith}
 use Rattle.forward.proofs.reduced.Statement.{statement}
 use Rattle.forward.proofs.reduced.Tie as tie
 
 returns : tie.Need-returns
-returns c = search needs
+returns c = record { none = λ e. e; some = λ h. absurd (omega arith) }
 
 mul-result : tie.Need-mul-result
 mul-result c = omega (arith, c .before .pre .0 (omega (arith, c .before .pre .1)))
