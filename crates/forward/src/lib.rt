@@ -213,7 +213,7 @@ fn fill(
     price: Price,
     full: bool,
     bits: &[u64],
-    gathered: Gathered,
+    block: Gathered,
     place: &[usize],
     size: &[usize],
     drop: &[u64],
@@ -223,14 +223,14 @@ fn fill(
 )
     requires { ⌜ Accepted (price .a) (price .b) ⌝ }
     requires { ⌜ full ≡ isFull (now bits) ⌝ }
-    requires { ⌜ Job (gathered .count) (gathered .error .0) (now place) (now size) (now drop) (now bits) ⌝ }
+    requires { ⌜ Job (block .count) (block .error .0) (now place) (now size) (now drop) (now bits) ⌝ }
     requires { ⌜ Room (now cost) (now sum) (now pred) ⌝ }
-    ensures { λ r. ⌜ Nodes (price .a) (price .b) (gathered .count) (gathered .error .0) (now (place .entry)) (now (size .entry)) (now (drop .entry)) (now (bits .entry)) (now (cost .exit)) (now (sum .exit)) (now (pred .exit)) (gathered .count + 1) ⌝ }
+    ensures { λ r. ⌜ Nodes (price .a) (price .b) (block .count) (block .error .0) (now (place .entry)) (now (size .entry)) (now (drop .entry)) (now (bits .entry)) (now (cost .exit)) (now (sum .exit)) (now (pred .exit)) (block .count + 1) ⌝ }
 {
     let a = price.a;
     let b = price.b;
-    let m = gathered.count;
-    let total = gathered.error.0;
+    let m = block.count;
+    let total = block.error.0;
     cost[0] = price.cost(Error(total), Bits(0));
     sum[0] = 0;
     let mut i = 1;
@@ -270,7 +270,7 @@ pub fn search(
     price: Price,
     full: bool,
     bits: &[u64],
-    gathered: Gathered,
+    block: Gathered,
     place: &[usize],
     size: &[usize],
     drop: &[u64],
@@ -280,37 +280,19 @@ pub fn search(
 ) -> Decision
     requires { ⌜ Accepted (price .a) (price .b) ⌝ }
     requires { ⌜ full ≡ isFull (now bits) ⌝ }
-    requires { ⌜ Job (gathered .count) (gathered .error .0) (now place) (now size) (now drop) (now bits) ⌝ }
+    requires { ⌜ Job (block .count) (block .error .0) (now place) (now size) (now drop) (now bits) ⌝ }
     requires { ⌜ Room (now cost) (now sum) (now pred) ⌝ }
-    ensures { λ r. ⌜ Decided (price .a) (price .b) (gathered .count) (gathered .error .0) (now (place .entry)) (now (size .entry)) (now (drop .entry)) (now (bits .entry)) r ⌝ }
+    ensures { λ r. ⌜ Decided (price .a) (price .b) (block .count) (block .error .0) (now (place .entry)) (now (size .entry)) (now (drop .entry)) (now (bits .entry)) r ⌝ }
 {
-    fill(
-        price,
-        full,
-        bits,
-        gathered,
-        place,
-        size,
-        drop,
-        cost,
-        sum,
-        pred,
-    );
-    let f = least(
-        full,
-        price.b,
-        gathered.count + 1,
-        63,
-        place,
-        cost,
-        sum,
-        bits,
-    );
+    fill(price, full, bits, block, place, size, drop, cost, sum, pred);
+    let b = price.b;
+    let m = block.count;
+    let f = least(full, b, m + 1, 63, place, cost, sum, bits);
     if f.cost == FAR {
         return Decision::Nothing;
     }
     let j = f.at;
     let n = sum[j] + bits[63 - place[j]];
-    let p = walk(j, n, gathered.error.0, place, drop, pred);
+    let p = walk(j, n, block.error.0, place, drop, pred);
     Decision::Best(p)
 }

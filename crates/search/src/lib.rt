@@ -208,17 +208,6 @@ pub fn decide(
     requires { ⌜ Room (now cost) (now sum) (now pred) ⌝ }
     ensures { λ r. ⌜ Settles (now (levels .entry)) (now (steps .entry)) (now (bits .entry)) (price .a) (price .b) r ⌝ }
 {
-    let gathered = gather(levels, steps, place, size, drop);
-    search(
-        price,
-        full,
-        bits,
-        gathered,
-        place,
-        size,
-        drop,
-        cost,
-        sum,
-        pred,
-    )
+    let block = gather(levels, steps, place, size, drop);
+    search(price, full, bits, block, place, size, drop, cost, sum, pred)
 }

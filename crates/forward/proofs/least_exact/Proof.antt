@@ -38,7 +38,7 @@ shared-slice-read-compare : tie.Need-shared-slice-read-compare Inv-loop μ-loop
 shared-slice-read-compare c = omega arith
 
 priced-requires : tie.Need-priced-requires Inv-loop μ-loop
-priced-requires c κs = (c .before .before .before .before .before .before .before .before .before .pre .0 .b-most, c .before .before .before .before .before .before .before .before .before .pre .0 .bits-most _)
+priced-requires c κs = let s = c .before .before .before .before .before .before .before .before .before in (s .pre .0 .b-most, s .pre .0 .bits-most _)
 
 add-compare : tie.Need-add-compare Inv-loop μ-loop
 add-compare c = omega (arith, span-cost (c .before .before .before .before .before .before .before .before .before .before .pre .0) _ (c .before .before .before .before .loop-test .taken), c .priced .ensures)
@@ -50,7 +50,7 @@ shared-slice-read-compare-2 : tie.Need-shared-slice-read-compare-2 Inv-loop μ-l
 shared-slice-read-compare-2 c = omega arith
 
 add-compare-2 : tie.Need-add-compare-2 Inv-loop μ-loop
-add-compare-2 c = omega (arith, span-bit (c .before .before .before .before .before .before .before .before .before .before .before .pre .0) _ (c .before .before .before .before .before .loop-test .taken) (c .before .before .before .before .before .before .before .before .before .before .before .pre .1))
+add-compare-2 c = let s = c .before .before .before .before .before .before .before .before .before .before .before in omega (arith, span-bit (s .pre .0) _ (c .before .before .before .before .before .loop-test .taken) (s .pre .1))
 
 compare-requires : tie.Need-compare-requires Inv-loop μ-loop
 compare-requires c κs = tt

@@ -47,7 +47,9 @@ mul-c-4 : tie.Need-mul-c-4 Inv-loop μ-loop
 mul-c-4 c = omega (arith, span-product (c .before .before .before .before .before .before .before .before .before .pre .0) _ (c .before .before .before .loop-test .taken))
 
 add-c : tie.Need-add-c Inv-loop μ-loop
-add-c c = omega (arith, span-product (c .before .before .before .before .before .before .before .before .before .pre .0) _ (c .before .before .before .loop-test .taken), c .before .before .before .before .before .before .before .before .before .pre .0 .cost-most _ (c .before .before .before .loop-test .taken))
+add-c c =
+    let s = c .before .before .before .before .before .before .before .before .before in
+    omega (arith, span-product (s .pre .0) _ (c .before .before .before .loop-test .taken), s .pre .0 .cost-most _ (c .before .before .before .loop-test .taken))
 
 weigh-requires : tie.Need-weigh-requires Inv-loop μ-loop
 weigh-requires c κs = tt
@@ -59,7 +61,9 @@ loop-less : tie.Need-loop-less Inv-loop μ-loop
 loop-less c = omega arith
 
 loop-again : tie.Need-loop-again Inv-loop μ-loop
-loop-again c = (omega arith, quick-step (c .before .before .before .before .before .before .before .before .before .before .pre .0) _ (c .before .before .before .before .loop-test .taken) (sym (c .before .before .before .before .before .before .before .before .before .before .pre .1) ∙ not-false _ (c .before .before .before .before .before .before .if1 .left)) _ _ (c .before .before .before .before .before .loop .inv .1) (c .weigh .ensures))
+loop-again c =
+    let s = c .before .before .before .before .before .before .before .before .before .before in
+    (omega arith, quick-step (s .pre .0) _ (c .before .before .before .before .loop-test .taken) (sym (s .pre .1) ∙ not-false _ (c .before .before .before .before .before .before .if1 .left)) _ _ (c .before .before .before .before .before .loop .inv .1) (c .weigh .ensures))
 
 returns-2 : tie.Need-returns-2 Inv-loop μ-loop
 returns-2 c = record { first = λ t n. scan-end _ n _ _ _ (c .before .loop .inv .1) (omega (arith, c .before .loop .inv .0)) t }

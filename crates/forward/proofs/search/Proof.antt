@@ -3,21 +3,30 @@
 use Prim.Native.Nat.{_+_, _<_}
 use borrow.Author.Needs.{needs}
 use native.Mathlib.Omega.{arith}
+use Rattle.forward.specs.Given.{Job}
 use Rattle.forward.proofs.Scanning.{span-bit}
 use Rattle.forward.proofs.Node.{earliest-under}
 use Rattle.forward.proofs.Nodes.{nodes-sums, search-span, search-none, search-backed, search-best}
 use Rattle.forward.proofs.search.Statement.{statement}
 use Rattle.forward.proofs.search.Tie as tie
 
-abbrev start : tie.After-least → tie.Start
-start f = f .before .before .before .before .before .before .before .before .before .before .before .before .before .before .before .before .before .before .before .before .before
+-- what is known once the nodes are filled
+abbrev start : tie.After-fill → tie.Start
+start n = n .before .before .before .before .before .before .before .before .before .before .before
+
+job : (n : tie.After-fill)
+    → Job (start n .args .block .count) (start n .args .block .error .0) (start n .args .place .now) (start n .args .size .now) (start n .args .drop .now) (start n .args .bits .now)
+job n = start n .pre .1 .1 .0
 
 -- the node that the best way leaves
-from : (f : tie.After-least) → f .least .result .at < start f .args .gathered .count + 1
+abbrev filled : tie.After-least → tie.After-fill
+filled f = f .before .before .before .before .before .before .before .before .before
+
+from : (f : tie.After-least) → f .least .result .at < start (filled f) .args .block .count + 1
 from f = earliest-under (omega arith) (f .least .ensures)
 
 inside : (f : tie.After-least) → f .least .result .at < 64
-inside f = omega (arith, from f, start f .pre .1 .1 .0 .given .gathered .most)
+inside f = omega (arith, from f, job (filled f) .given .gathered .most)
 
 fill-requires : tie.Need-fill-requires
 fill-requires c κs = search needs
@@ -26,7 +35,9 @@ add-least : tie.Need-add-least
 add-least c = search needs
 
 least-requires : tie.Need-least-requires
-least-requires c κs = (search-span (c .before .before .before .before .before .before .before .before .before .before .before .before .before .before .before .before .before .before .before .before .pre .0) (c .before .before .before .before .before .before .before .before .before .fill .ensures) (c .before .before .before .before .before .before .before .before .before .before .before .before .before .before .before .before .before .before .before .before .pre .1 .1 .0), (nodes-sums (c .before .before .before .before .before .before .before .before .before .before .before .before .before .before .before .before .before .before .before .before .pre .0) (c .before .before .before .before .before .before .before .before .before .before .before .before .before .before .before .before .before .before .before .before .pre .1 .1 .0) (c .before .before .before .before .before .before .before .before .before .fill .ensures) (omega arith), c .before .before .before .before .before .before .before .before .before .before .before .before .before .before .before .before .before .before .before .before .pre .1 .0))
+least-requires c κs =
+    let n = c .before .before .before .before .before .before .before .before in
+    (search-span (start n .pre .0) (n .fill .ensures) (job n), (nodes-sums (start n .pre .0) (job n) (n .fill .ensures) (omega arith), start n .pre .1 .0))
 
 same-length : tie.Need-same-length
 same-length c = search needs
@@ -38,34 +49,43 @@ same-length-3 : tie.Need-same-length-3
 same-length-3 c = search needs
 
 returns : tie.Need-returns
-returns c = search-none (c .before .before .before .before .before .before .before .before .before .before .before .before .before .before .before .before .before .before .before .before .before .before .before .pre .0) (c .before .before .before .before .before .before .before .before .before .before .before .before .fill .ensures) (c .before .before .least .ensures) (c .if1 .taken)
+returns c =
+    let f = c .before .before in
+    search-none (start (filled f) .pre .0) (filled f .fill .ensures) (f .least .ensures) (c .if1 .taken)
 
 mul-n : tie.Need-mul-n
 mul-n c = omega (arith, inside (c .before .before))
 
 slice-read-n : tie.Need-slice-read-n
-slice-read-n c = omega (arith, inside (c .before .before .before), c .before .before .before .before .before .before .before .before .before .before .before .before .before .fill .ensures .sum-long)
+slice-read-n c = let f = c .before .before .before in omega (arith, inside f, filled f .fill .ensures .sum-long)
 
 mul-n-2 : tie.Need-mul-n-2
 mul-n-2 c = omega (arith, inside (c .before .before .before))
 
 shared-slice-read-n : tie.Need-shared-slice-read-n
-shared-slice-read-n c = omega (arith, inside (c .before .before .before .before), c .before .before .before .before .before .before .before .before .before .before .before .before .before .before .before .before .before .before .before .before .before .before .before .before .before .pre .1 .1 .0 .given .gathered .place-long)
+shared-slice-read-n c = let f = c .before .before .before .before in omega (arith, inside f, job (filled f) .given .gathered .place-long)
 
 sub-n : tie.Need-sub-n
-sub-n c = search-span (c .before .before .before .before .before .before .before .before .before .before .before .before .before .before .before .before .before .before .before .before .before .before .before .before .before .pre .0) (c .before .before .before .before .before .before .before .before .before .before .before .before .before .before .fill .ensures) (c .before .before .before .before .before .before .before .before .before .before .before .before .before .before .before .before .before .before .before .before .before .before .before .before .before .pre .1 .1 .0) .reach _ (from (c .before .before .before .before))
+sub-n c =
+    let f = c .before .before .before .before in
+    search-span (start (filled f) .pre .0) (filled f .fill .ensures) (job (filled f)) .reach _ (from f)
 
 mul-n-3 : tie.Need-mul-n-3
 mul-n-3 c = search needs
 
 shared-slice-read-n-2 : tie.Need-shared-slice-read-n-2
-shared-slice-read-n-2 c = omega (arith, c .before .before .before .before .before .before .before .before .before .before .before .before .before .before .before .before .before .before .before .before .before .before .before .before .before .before .pre .1 .1 .0 .given .table .long)
+shared-slice-read-n-2 c = omega (arith, job (filled (c .before .before .before .before .before)) .given .table .long)
 
 add-n : tie.Need-add-n
-add-n c = omega (arith, span-bit (search-span (c .before .before .before .before .before .before .before .before .before .before .before .before .before .before .before .before .before .before .before .before .before .before .before .before .before .before .pre .0) (c .before .before .before .before .before .before .before .before .before .before .before .before .before .before .before .fill .ensures) (c .before .before .before .before .before .before .before .before .before .before .before .before .before .before .before .before .before .before .before .before .before .before .before .before .before .before .pre .1 .1 .0)) _ (from (c .before .before .before .before .before)) (nodes-sums (c .before .before .before .before .before .before .before .before .before .before .before .before .before .before .before .before .before .before .before .before .before .before .before .before .before .before .pre .0) (c .before .before .before .before .before .before .before .before .before .before .before .before .before .before .before .before .before .before .before .before .before .before .before .before .before .before .pre .1 .1 .0) (c .before .before .before .before .before .before .before .before .before .before .before .before .before .before .before .fill .ensures) (omega arith)))
+add-n c =
+    let f = c .before .before .before .before .before in
+    let n = filled f in
+    omega (arith, span-bit (search-span (start n .pre .0) (n .fill .ensures) (job n)) _ (from f) (nodes-sums (start n .pre .0) (job n) (n .fill .ensures) (omega arith)))
 
 walk-requires : tie.Need-walk-requires
-walk-requires c κs = search-backed (c .before .before .before .before .before .before .before .before .before .before .before .before .before .before .before .before .before .before .before .before .before .before .before .before .before .before .before .pre .0) (c .before .before .before .before .before .before .before .before .before .before .before .before .before .before .before .before .fill .ensures) (c .before .before .before .before .before .before .least .ensures) (c .before .before .before .before .before .before .before .before .before .before .before .before .before .before .before .before .before .before .before .before .before .before .before .before .before .before .before .pre .1 .1 .0) (c .before .before .before .before .if1 .left)
+walk-requires c κs =
+    let f = c .before .before .before .before .before .before in
+    search-backed (start (filled f) .pre .0) (filled f .fill .ensures) (f .least .ensures) (job (filled f)) (c .before .before .before .before .if1 .left)
 
 same-length-4 : tie.Need-same-length-4
 same-length-4 c = search needs
@@ -77,7 +97,9 @@ same-length-6 : tie.Need-same-length-6
 same-length-6 c = search needs
 
 returns-2 : tie.Need-returns-2
-returns-2 c = search-best (c .before .before .before .before .before .before .before .before .before .before .before .before .before .before .before .before .before .before .before .before .before .before .before .before .before .before .before .before .pre .0) (c .before .before .before .before .before .before .before .before .before .before .before .before .before .before .before .before .before .fill .ensures) (c .before .before .before .before .before .before .before .least .ensures) (c .before .before .before .before .before .if1 .left) (c .walk .ensures)
+returns-2 c =
+    let f = c .before .before .before .before .before .before .before in
+    search-best (start (filled f) .pre .0) (filled f .fill .ensures) (f .least .ensures) (c .before .before .before .before .before .if1 .left) (c .walk .ensures)
 
 pub search-spec : {M : Type 1} → statement M
 search-spec =

@@ -9,7 +9,7 @@ gather-requires : tie.Need-gather-requires
 gather-requires c κs = search needs
 
 search-requires : tie.Need-search-requires
-search-requires c κs = (c .before .before .before .before .before .before .before .before .before .before .before .before .before .before .before .before .before .before .before .before .before .before .before .before .pre .0, (c .before .before .before .before .before .before .before .before .before .before .before .before .before .before .before .before .before .before .before .before .before .before .before .before .pre .1 .0 .full-is, (job (c .before .before .before .before .before .before .before .before .before .before .before .before .gather .ensures) (c .before .before .before .before .before .before .before .before .before .before .before .before .before .before .before .before .before .before .before .before .before .before .before .before .pre .1 .0 .table), c .before .before .before .before .before .before .before .before .before .before .before .before .before .before .before .before .before .before .before .before .before .before .before .before .pre .1 .1 .1)))
+search-requires c κs = let s = c .before .before .before .before .before .before .before .before .before .before .before .before .before .before .before .before .before .before .before .before .before .before .before .before in (s .pre .0, (s .pre .1 .0 .full-is, (job (c .before .before .before .before .before .before .before .before .before .before .before .before .gather .ensures) (s .pre .1 .0 .table), s .pre .1 .1 .1)))
 
 same-length : tie.Need-same-length
 same-length c = search needs

@@ -9,7 +9,7 @@ places-requires : tie.Need-places-requires
 places-requires c κs = search needs
 
 weights-requires : tie.Need-weights-requires
-weights-requires c κs = (c .before .before .before .before .before .before .before .before .before .before .before .pre .0, (c .before .before .before .before .before .before .before .before .before .before .before .pre .1 .0, (c .before .before .before .before .before .places .ensures, (c .before .before .before .before .before .before .before .before .before .before .before .pre .1 .1 .second, c .before .before .before .before .before .before .before .before .before .before .before .pre .1 .1 .third))))
+weights-requires c κs = let s = c .before .before .before .before .before .before .before .before .before .before .before in (s .pre .0, (s .pre .1 .0, (c .before .before .before .before .before .places .ensures, (s .pre .1 .1 .second, s .pre .1 .1 .third))))
 
 same-length : tie.Need-same-length
 same-length c = search needs
@@ -22,10 +22,11 @@ same-length-3 c = search needs
 
 returns : tie.Need-returns
 returns c =
+    let s = c .before .before .before .before .before .before .before .before .before .before .before .before .before .before .before .before in
     record {
-      levels-fine = c .before .before .before .before .before .before .before .before .before .before .before .before .before .before .before .before .pre .0;
-      steps-fine = c .before .before .before .before .before .before .before .before .before .before .before .before .before .before .before .before .pre .1 .0;
-      gathers = gathered (c .before .before .before .before .before .before .before .before .before .before .before .before .before .before .before .before .pre .0 .most) (c .before .before .before .before .before .before .before .before .before .before .before .before .before .before .before .before .pre .1 .0 .most) (c .before .before .before .before .before .before .before .before .before .before .places .ensures) (c .before .before .before .before .weights .ensures);
+      levels-fine = s .pre .0;
+      steps-fine = s .pre .1 .0;
+      gathers = gathered (s .pre .0 .most) (s .pre .1 .0 .most) (c .before .before .before .before .before .before .before .before .before .before .places .ensures) (c .before .before .before .before .weights .ensures);
     }
 
 pub gather-spec : {M : Type 1} → statement M

@@ -27,30 +27,36 @@ inside t = omega (arith, start t .pre .1 .1 .0 .most, t .loop-test .taken)
 under : (t : tie.In-loop Inv-loop μ-loop) → (0 < getD (start t .args .place .now) (t .before .loop .i) 0) × (getD (start t .args .place .now) (t .before .loop .i) 0 < 64)
 under t = (omega (arith, start t .pre .1 .1 .0 .rises 0 _ (t .before .loop .inv .0) (t .loop-test .taken)), start t .pre .1 .1 .0 .under _ (t .loop-test .taken))
 
-read : (c : tie.After-magnitude Inv-loop μ-loop) → (c .magnitude .result ≡ acLevel (start (c .before .before .before) .args .levels .now) (getD (start (c .before .before .before) .args .place .now) (c .before .before .before .before .loop .i) 0)) × (c .magnitude .result ≤ 1023)
-read c = level-at _ (start (c .before .before .before) .pre .0) (under (c .before .before .before) .0) (c .magnitude .ensures)
+-- the turn of a later place, and the level that is read in it
+abbrev turn : tie.After-magnitude Inv-loop μ-loop → tie.In-loop Inv-loop μ-loop
+turn v = v .before .before .before
+
+read : (v : tie.After-magnitude Inv-loop μ-loop)
+    → (v .magnitude .result ≡ acLevel (start (turn v) .args .levels .now) (getD (start (turn v) .args .place .now) (turn v .before .loop .i) 0)) × (v .magnitude .result ≤ 1023)
+read v = level-at _ (start (turn v) .pre .0) (under (turn v) .0) (v .magnitude .ensures)
 
 loop-holds : tie.Need-loop-holds Inv-loop μ-loop
 loop-holds c =
-    (omega arith, omega arith, weighted-start (c .before .before .before .before .pre .0 .most) (c .before .before .before .before .pre .1 .0 .most) (c .before .before .before .before .pre .1 .1 .0) (c .before .before .before .before .pre .1 .1 .1 .0) (c .before .before .before .before .pre .1 .1 .1 .1))
+    let s = c .before .before .before .before in
+    (omega arith, omega arith, weighted-start (s .pre .0 .most) (s .pre .1 .0 .most) (s .pre .1 .1 .0) (s .pre .1 .1 .1 .0) (s .pre .1 .1 .1 .1))
 
 mul-p : tie.Need-mul-p Inv-loop μ-loop
 mul-p c = omega (arith, inside c)
 
 shared-slice-read-p : tie.Need-shared-slice-read-p Inv-loop μ-loop
-shared-slice-read-p c = omega (arith, inside (c .before), c .before .before .before .before .before .before .before .pre .1 .1 .0 .long)
+shared-slice-read-p c = let t = c .before in omega (arith, inside t, start t .pre .1 .1 .0 .long)
 
 mul-magnitude : tie.Need-mul-magnitude Inv-loop μ-loop
 mul-magnitude c = omega (arith, under (c .before))
 
 shared-slice-copy-out-magnitude : tie.Need-shared-slice-copy-out-magnitude Inv-loop μ-loop
-shared-slice-copy-out-magnitude c = omega (arith, under (c .before), c .before .before .before .before .before .before .before .pre .0 .count)
+shared-slice-copy-out-magnitude c = let t = c .before in omega (arith, under t, start t .pre .0 .count)
 
 magnitude-requires : tie.Need-magnitude-requires Inv-loop μ-loop
 magnitude-requires c κs = tt
 
 shared-slice-read-squared-error : tie.Need-shared-slice-read-squared-error Inv-loop μ-loop
-shared-slice-read-squared-error c = omega (arith, under (c .before .before .before .before), c .before .before .before .before .before .before .before .before .before .before .pre .1 .0 .count)
+shared-slice-read-squared-error c = let t = c .before .before .before .before in omega (arith, under t, start t .pre .1 .0 .count)
 
 squared-error-requires : tie.Need-squared-error-requires Inv-loop μ-loop
 squared-error-requires c κs = read (c .before) .1
@@ -62,17 +68,19 @@ mul-size : tie.Need-mul-size Inv-loop μ-loop
 mul-size c = omega (arith, inside (c .before .before .before .before .before .before))
 
 slice-write-size : tie.Need-slice-write-size Inv-loop μ-loop
-slice-write-size c = omega (arith, inside (c .before .before .before .before .before .before), c .before .before .before .before .before .before .before .loop .inv .2 .sizes-long)
+slice-write-size c = let t = c .before .before .before .before .before .before in omega (arith, inside t, t .before .loop .inv .2 .sizes-long)
 
 mul-drop : tie.Need-mul-drop Inv-loop μ-loop
 mul-drop c = omega (arith, inside (c .before .before .before .before .before .before))
 
 slice-write-drop : tie.Need-slice-write-drop Inv-loop μ-loop
-slice-write-drop c = omega (arith, inside (c .before .before .before .before .before .before), c .before .before .before .before .before .before .before .loop .inv .2 .errors-long)
+slice-write-drop c = let t = c .before .before .before .before .before .before in omega (arith, inside t, t .before .loop .inv .2 .errors-long)
 
 add-total : tie.Need-add-total Inv-loop μ-loop
 add-total c =
-    omega (arith, c .before .squared-error .ensures .1, weighted-most (c .before .before .before .before .before .before .before .before .before .before .before .before .pre .0 .most) (c .before .before .before .before .before .before .before .before .before .before .before .before .pre .1 .0 .most) (c .before .before .before .before .before .before .before .before .before .before .before .before .pre .1 .1 .0) (c .before .before .before .before .before .before .before .loop .inv .2) (c .before .before .before .before .before .before .before .loop .inv .0) (c .before .before .before .before .before .before .before .loop .inv .1))
+    let t = c .before .before .before .before .before .before in
+    let s = start t in
+    omega (arith, c .before .squared-error .ensures .1, weighted-most (s .pre .0 .most) (s .pre .1 .0 .most) (s .pre .1 .1 .0) (t .before .loop .inv .2) (t .before .loop .inv .0) (t .before .loop .inv .1))
 
 add-i : tie.Need-add-i Inv-loop μ-loop
 add-i c = omega (arith, inside (c .before .before .before .before .before .before))
@@ -81,11 +89,13 @@ loop-less : tie.Need-loop-less Inv-loop μ-loop
 loop-less c = omega (arith, c .before .before .before .before .before .before .loop-test .taken)
 
 loop-again : tie.Need-loop-again Inv-loop μ-loop
-loop-again c = (
-  omega arith,
-  omega (arith, c .before .before .before .before .before .before .loop-test .taken),
-  weighted-next (c .before .before .before .before .before .before .before .before .before .before .before .before .pre .0 .most) (c .before .before .before .before .before .before .before .before .before .before .before .before .pre .1 .0 .most) (c .before .before .before .before .before .before .before .before .before .before .before .before .pre .1 .1 .0) (c .before .before .before .before .before .before .before .loop .inv .2) (c .before .before .before .before .before .before .before .loop .inv .0) (c .before .before .before .before .before .before .loop-test .taken) (read (c .before .before .before) .0) (c .size-of .ensures) (c .before .squared-error .ensures .0),
-)
+loop-again c =
+    let t = c .before .before .before .before .before .before in
+    let s = start t in (
+      omega arith,
+      omega (arith, t .loop-test .taken),
+      weighted-next (s .pre .0 .most) (s .pre .1 .0 .most) (s .pre .1 .1 .0) (t .before .loop .inv .2) (t .before .loop .inv .0) (t .loop-test .taken) (read (c .before .before .before) .0) (c .size-of .ensures) (c .before .squared-error .ensures .0),
+    )
 
 same-length : tie.Need-same-length Inv-loop μ-loop
 same-length c = omega (arith, c .before .loop .inv .2 .sizes-long, c .before .before .before .before .before .before .pre .1 .1 .1 .0)
@@ -94,7 +104,7 @@ same-length-2 : tie.Need-same-length-2 Inv-loop μ-loop
 same-length-2 c = omega (arith, c .before .loop .inv .2 .errors-long, c .before .before .before .before .before .before .pre .1 .1 .1 .1)
 
 returns : tie.Need-returns Inv-loop μ-loop
-returns c = weighted-end (c .before .before .before .before .before .before .pre .0 .most) (c .before .before .before .before .before .before .pre .1 .0 .most) (c .before .before .before .before .before .before .pre .1 .1 .0) (c .before .loop .inv .2) (c .before .loop .inv .1) (c .loop-test .left)
+returns c = let s = c .before .before .before .before .before .before in weighted-end (s .pre .0 .most) (s .pre .1 .0 .most) (s .pre .1 .1 .0) (c .before .loop .inv .2) (c .before .loop .inv .1) (c .loop-test .left)
 
 pub weights-spec : {M : Type 1} → statement M
 weights-spec =
