@@ -4,6 +4,7 @@ use mathlib.Core.Path.{_≡_, refl, sym, ap, _∙_}
 use mathlib.Core.List.{List}
 use Prim.Native.Nat.{ℕ, _+_, _*_, _≤_, _<_}
 use native.Mathlib.Nat.{le-antisymm}
+use native.Mathlib.Decide.{decLe}
 use native.Mathlib.Omega.{arith}
 use Rattle.block.specs.Block.{Block}
 use Rattle.block.specs.Choice.{CodableChoice, bits, error, keepNumber}
@@ -14,6 +15,7 @@ use Rattle.price.proofs.Unique.{best-unique}
 use Rattle.corners.specs.Pair.{Pair, cost}
 use Rattle.corners.specs.Price.{Wins}
 use Rattle.corners.proofs.Corners.{pair-path}
+use Rattle.corners.proofs.Winner.{tie}
 use Rattle.attained.specs.Attained.{pairOf, Attained, Gives, Smallest}
 
 module _ (B : Block) where
@@ -57,6 +59,30 @@ module _ (B : Block) where
 
   pub gives-smallest : {a b : ℕ} {P : Pair} {k : ℕ} → Gives B a b P k → Smallest B P k
   gives-smallest g = rw (g .is, g .keep-is) (best-smallest (g .best))
+
+  -- and what wins by the smallest keep number is what the price gives
+  pub wins-gives : {a b : ℕ} {P : Pair} {k : ℕ} → 1 ≤ a → Wins (Attained B) a b P → Smallest B P k → Gives B a b P k
+  wins-gives {a} {b} {P} {k} h w s = record {
+    choice = s .choice;
+    best = record { allowed = s .codable; least = λ o c. before o c (decLe (cost a b (pairOf B o)) (cost a b P)) };
+    is = s .is;
+    keep-is = s .keep-is;
+  }
+    where
+      tied : (o : List ℕ) → CodableChoice B o → cost a b P ≡ cost a b (pairOf B o) → Dec (bits B 0 o ≤ P .bits) → Before a b (way B (s .choice)) (way B o)
+      tied o c e (no m) = let p = ap (λ (X : Pair). X .bits) (s .is) in let q = ap (cost a b) (s .is) in shorter (omega (arith, e)) (omega (arith, m))
+      tied o c e (yes m) =
+          let p = ap (λ (X : Pair). X .bits) (s .is) in
+          let q = ap (cost a b) (s .is) in
+          let n : P .bits ≡ bits B 0 o = le-antisymm (w .fewest (pairOf B o) (record { choice = o; codable = c; is = refl }) (sym e)) m in
+          smaller (omega (arith, e)) (omega (arith, n))
+          (omega (arith, s .keep-is, s .least o c (tie a b (pairOf B o) P h n e)))
+
+      before : (o : List ℕ) → CodableChoice B o → Dec (cost a b (pairOf B o) ≤ cost a b P) → Before a b (way B (s .choice)) (way B o)
+      before o c (no l) = let q = ap (cost a b) (s .is) in cheaper (omega (arith, l))
+      before o c (yes l) =
+          let m = w .least (pairOf B o) (record { choice = o; codable = c; is = refl }) in
+          tied o c (omega (arith, l, m)) (decLe (bits B 0 o) (P .bits))
 
   pub gives-unique : {a b : ℕ} {P Q : Pair} {k l : ℕ} → 1 ≤ a → Gives B a b P k → Gives B a b Q l → (P ≡ Q) × (k ≡ l)
   gives-unique {a} {b} {P} {Q} h g j =
