@@ -22,7 +22,7 @@ goes-onward {A} {low} {H} {C} {c} {d} a b r l h = go (eqb (d * a) (b * c)) (eqb-
     go true e = moves (course-way a b r l (e refl) .0) (e refl)
     go false e = stays h
 
-onward-bits : (a b : ℕ) (C : ℕ → Pair) (c d : ℕ → ℕ) (n : ℕ)
+pub onward-bits : (a b : ℕ) (C : ℕ → Pair) (c d : ℕ → ℕ) (n : ℕ)
     → (total (λ i. onward a b (C i) (c i) (d i)) n) .bits ≡ (total C n) .bits + growth a b c d n
 onward-bits a b C c d zero = refl
 onward-bits a b C c d (suc n) = omega (arith, onward-bits a b C c d n, one (eqb (d n * a) (b * c n)))
