@@ -1,6 +1,6 @@
 #!/bin/sh
 # Builds the tests from outside.
-# Usage: tests/build.sh OUT                    self, plain_stops and packets, which need no library
+# Usage: tests/build.sh OUT                    self, plain_stops, packets and refusals, which need no library
 #        tests/build.sh OUT PROGRAM ARCHIVE    price, lists or headend, linked with the library
 # CC compiles for this machine. LIBRARY_CC compiles for x86-64, which the library is for.
 set -eu
@@ -22,6 +22,7 @@ made="$plain $here/random.c $here/stills.c"
 if [ $# -eq 1 ]; then
     ${CC:-cc} $flags -o "$out/self" "$here/self.c" "$here/tally.c" $made
     ${CC:-cc} $flags -o "$out/plain_stops" "$here/plain_stops.c" $plain
+    ${CC:-cc} $flags -o "$out/refusals" "$here/refusals.c" $plain
     ${CC:-cc} $flags -o "$out/packets" "$here/packets.c" "$here/faults.c" $made
 else
     $library_cc $flags -o "$out/$2" "$here/$2.c" "$here/faults.c" "$here/lent.c" "$here/tally.c" $made "$3"

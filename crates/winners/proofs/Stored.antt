@@ -19,10 +19,10 @@ use Rattle.attained.specs.Attained.{Gives}
 use Rattle.winners.specs.Winners.{pairAt, Winners}
 
 module _ (bits error : List ℕ) (i x y : ℕ) (l : i < length bits) (m : i < length error) where
-  stored-pair : pairAt (set bits i x) (set error i y) i ≡ record { bits = x; error = y }
+  pub stored-pair : pairAt (set bits i x) (set error i y) i ≡ record { bits = x; error = y }
   stored-pair = pair-path _ _ (getD-set-same bits i x 0 l) (getD-set-same error i y 0 m)
 
-  other-pair : (k : ℕ) → k < i → pairAt (set bits i x) (set error i y) k ≡ pairAt bits error k
+  pub other-pair : (k : ℕ) → k < i → pairAt (set bits i x) (set error i y) k ≡ pairAt bits error k
   other-pair k h = pair-path _ _ (getD-set-other bits i k x 0 (omega arith)) (getD-set-other error i k y 0 (omega arith))
 
   pub total-stored : total (pairAt (set bits i x) (set error i y)) (i + 1)

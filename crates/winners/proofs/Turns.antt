@@ -7,6 +7,7 @@ use Prim.Native.Nat.{ℕ, _+_, _-_, _*_, _/_, _≤_, _<_}
 use native.Mathlib.Omega.{arith}
 use lib.IntN.{ℤ}
 use lib.ListN.{length, length-set, set, take, drop}
+use Rattle.block.specs.Block.{Block}
 use Rattle.block.specs.Limits.{Limits, mostBits, mostError}
 use Rattle.block.specs.Level.{blockOf, levelsOf}
 use Rattle.block.proofs.Limited.{block-limits}
@@ -51,8 +52,12 @@ deciding-start s p m x y z = record {
 }
 
 -- the part of the levels that is lent is block i's
-part-is : (levels : List ℤ) (i : ℕ) → take (64 * i + 64 - 64 * i) (drop (64 * i) levels) ≡ levelsOf levels i
+pub part-is : (levels : List ℤ) (i : ℕ) → take (64 * i + 64 - 64 * i) (drop (64 * i) levels) ≡ levelsOf levels i
 part-is levels i = let e : 64 * i + 64 - 64 * i ≡ 64 = omega arith in ap (λ (k : ℕ). take k (drop (64 * i) levels)) e
+
+-- what is chosen is what the price gives
+pub best-gives : {B : Block} {a b : ℕ} {p : Chosen} → OfBest B a b p → Gives B a b (record { bits = p .bits .0; error = p .error .0 }) (p .keep)
+best-gives o = record { choice = o .choice; best = o .best; is = pair-path _ _ (o .bits-is) (o .error-is); keep-is = o .keep-is }
 
 module _ {levels : List ℤ} {steps lengths : List ℕ} {a b : ℕ} {table : List ℕ} {full : Bool} {n : ℕ} {bits error keep : List ℕ} {x y i : ℕ}
     (d : Deciding levels steps lengths a b table full n bits error keep x y i) (l : i < n) where
@@ -75,9 +80,7 @@ module _ {levels : List ℤ} {steps lengths : List ℕ} {a b : ℕ} {table : Lis
 
     module _ (p : Chosen) (e : r ≡ decision.Best p) where
       gives : Gives (blockAt levels steps lengths i) a b (record { bits = p .bits .0; error = p .error .0 }) (p .keep)
-      gives =
-          let o = decides .best p e in
-          record { choice = o .choice; best = o .best; is = pair-path _ _ (o .bits-is) (o .error-is); keep-is = o .keep-is }
+      gives = best-gives (decides .best p e)
 
       pub bits-fit : x + p .bits .0 ≤ mostBits * (i + 1)
       bits-fit = omega (arith, d .bits-most, attained-bits (blockAt levels steps lengths i) limits (gives-wins (blockAt levels steps lengths i) gives .attained))

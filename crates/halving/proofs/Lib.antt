@@ -1,0 +1,4 @@
+pub mod Won
+pub mod Part
+pub mod Ends
+pub mod Narrowing

@@ -1,0 +1,226 @@
+-- `halving::bracket` meets its contract: each turn moves one end of the range inwards, on its side of the budget.
+-- Assumes nothing.
+use mathlib.Core.Path.{_≡_, refl}
+use Prim.Native.Nat.{_-_, _<_}
+use native.Mathlib.Omega.{arith}
+use borrow.Author.Needs.{needs}
+use lib.ListN.{length}
+use Rattle.attained.specs.Attained.{blockAt}
+use Rattle.halving.specs.WonAt.{Brackets, RoomFor}
+use Rattle.halving.proofs.Ends.{end-taken}
+use Rattle.halving.proofs.Narrowing.{brackets-wide, inside-accepted, inside-between, high-moves, low-moves}
+use Rattle.halving.proofs.bracket.Statement.{statement}
+use Rattle.halving.proofs.bracket.Tie as tie
+
+abbrev Inv-loop : tie.InvT-loop
+Inv-loop levels steps lengths budget cb₀ ce₀ ck₀ lb₀ le₀ lk₀ table full mb₀ me₀ mk₀ n range₀ turn₀ cb ce ck lb le lk mb me mk range turn =
+    Brackets (blockAt levels steps lengths) n budget range cb ce ck lb le lk × RoomFor n cb ce ck × RoomFor n lb le lk
+    × (length mb ≡ 1024) × (length me ≡ 1024) × (length mk ≡ 1024) × (turn < 8)
+    × (length cb ≡ length cb₀) × (length ce ≡ length ce₀) × (length ck ≡ length ck₀)
+    × (length lb ≡ length lb₀) × (length le ≡ length le₀) × (length lk ≡ length lk₀)
+
+abbrev μ-loop : tie.MeasureT-loop
+μ-loop levels steps lengths budget cb₀ ce₀ ck₀ lb₀ le₀ lk₀ table full mb₀ me₀ mk₀ n range₀ turn₀ cb ce ck lb le lk mb me mk range turn =
+    range .high .price - range .low .price
+
+abbrev start : tie.At-loop Inv-loop μ-loop → tie.Start Inv-loop μ-loop
+start t = t .before .before .before .before .before .before .before .before .before .before .before .before
+
+slice-aggregate-bit-table : tie.Need-slice-aggregate-bit-table Inv-loop μ-loop
+slice-aggregate-bit-table c = search needs
+
+bit-table-requires : tie.Need-bit-table-requires Inv-loop μ-loop
+bit-table-requires c κs = search needs
+
+loop-holds : tie.Need-loop-holds Inv-loop μ-loop
+loop-holds c =
+    let p = c .before .before .before .before .before .before .before .before .before .before .before .pre in (
+      p .1 .1,
+      p .1 .0 .0,
+      p .1 .0 .1,
+      search needs,
+      search needs,
+      search needs,
+      search needs,
+      search needs,
+      search needs,
+      search needs,
+      search needs,
+      search needs,
+      search needs,
+    )
+
+sub-if1 : tie.Need-sub-if1 Inv-loop μ-loop
+sub-if1 c = omega (arith, c .before .loop .inv .0 .rises)
+
+middle-requires : tie.Need-middle-requires Inv-loop μ-loop
+middle-requires c κs = brackets-wide (c .before .before .loop .inv .0) (c .if1 .taken)
+
+add-turn : tie.Need-add-turn Inv-loop μ-loop
+add-turn c = search needs
+
+slice-aggregate-decide-between : tie.Need-slice-aggregate-decide-between Inv-loop μ-loop
+slice-aggregate-decide-between c = search needs
+
+slice-aggregate-decide-between-2 : tie.Need-slice-aggregate-decide-between-2 Inv-loop μ-loop
+slice-aggregate-decide-between-2 c = search needs
+
+slice-aggregate-decide-between-3 : tie.Need-slice-aggregate-decide-between-3 Inv-loop μ-loop
+slice-aggregate-decide-between-3 c = search needs
+
+slice-aggregate-decide-between-4 : tie.Need-slice-aggregate-decide-between-4 Inv-loop μ-loop
+slice-aggregate-decide-between-4 c = search needs
+
+decide-between-requires : tie.Need-decide-between-requires Inv-loop μ-loop
+decide-between-requires c κs =
+    let m = c .before .before .before .before .before .before .before .before in
+    let t = m .before .before .before in
+    let i = t .loop .inv in
+    let p = start t .pre .0 in
+    (p,
+    (t .before .before .bit-table .ensures,
+    ((inside-accepted (i .0) (m .middle .ensures .0) (m .middle .ensures .1), refl),
+    (inside-between (i .0) (m .middle .ensures .0) (m .middle .ensures .1) (i .1) (i .2),
+    record { bits-room = omega (arith, p .still .most, i .3); error-room = omega (arith, p .still .most, i .4); keep-room = omega (arith, p .still .most, i .5) }))))
+
+slice-aggregate-take-over : tie.Need-slice-aggregate-take-over Inv-loop μ-loop
+slice-aggregate-take-over c = search needs
+
+slice-aggregate-take-over-2 : tie.Need-slice-aggregate-take-over-2 Inv-loop μ-loop
+slice-aggregate-take-over-2 c = search needs
+
+slice-aggregate-take-over-3 : tie.Need-slice-aggregate-take-over-3 Inv-loop μ-loop
+slice-aggregate-take-over-3 c = search needs
+
+take-over-requires : tie.Need-take-over-requires Inv-loop μ-loop
+take-over-requires c κs =
+    let t = c .before .before .before .before .before .before .before .before .before .before .before .before .before .before .before .before .before .before .before .before .before .before .before in
+    let i = t .loop .inv in
+    let p = start t .pre .0 in
+    (record { bits-room = omega (arith, p .still .most, i .3); error-room = omega (arith, p .still .most, i .4); keep-room = omega (arith, p .still .most, i .5) },
+    i .1)
+
+loop-less : tie.Need-loop-less Inv-loop μ-loop
+loop-less c =
+    let d = c .before .before .before .before .before .before .before .before .before .before .before .before .before .before .before .before .before .before in
+    omega (arith, d .before .before .before .before .before .before .before .before .before .middle .ensures, d .decide-between .ensures .0)
+
+loop-again : tie.Need-loop-again Inv-loop μ-loop
+loop-again c =
+    let d = c .before .before .before .before .before .before .before .before .before .before .before .before .before .before .before .before .before .before in
+    let m = d .before .before .before .before .before .before .before .before .before in
+    let i = m .before .before .before .loop .inv in (
+      high-moves (i .0) (m .middle .ensures .0) (m .middle .ensures .1) (d .decide-between .ensures .0) (end-taken (c .before .before .before .before .before .before .take-over .ensures) (d .decide-between .ensures .1)) (c .before .before .before .before .before .before .before .before .before .before .before .before .before .if2 .taken),
+      record { bits-room = omega (arith, i .1 .bits-room, c .before .before .before .before .before .before .take-over .kept .1 .1 .1 .1 .0); error-room = omega (arith, i .1 .error-room, c .before .before .before .before .before .before .take-over .kept .1 .1 .1 .1 .1 .0); keep-room = omega (arith, i .1 .keep-room, c .before .before .before .before .before .before .take-over .kept .1 .1 .1 .1 .1 .1 .0) },
+      i .2,
+      omega (arith, i .3, d .decide-between .kept .1 .1 .1 .1 .1 .1 .1 .1 .1 .1 .0),
+      omega (arith, i .4, d .decide-between .kept .1 .1 .1 .1 .1 .1 .1 .1 .1 .1 .1 .0),
+      omega (arith, i .5, d .decide-between .kept .1 .1 .1 .1 .1 .1 .1 .1 .1 .1 .1 .1 .0),
+      search needs,
+      search needs,
+      search needs,
+      search needs,
+      search needs,
+      search needs,
+      search needs,
+    )
+
+slice-aggregate-take-over-4 : tie.Need-slice-aggregate-take-over-4 Inv-loop μ-loop
+slice-aggregate-take-over-4 c = search needs
+
+slice-aggregate-take-over-5 : tie.Need-slice-aggregate-take-over-5 Inv-loop μ-loop
+slice-aggregate-take-over-5 c = search needs
+
+slice-aggregate-take-over-6 : tie.Need-slice-aggregate-take-over-6 Inv-loop μ-loop
+slice-aggregate-take-over-6 c = search needs
+
+take-over-requires-2 : tie.Need-take-over-requires-2 Inv-loop μ-loop
+take-over-requires-2 c κs =
+    let t = c .before .before .before .before .before .before .before .before .before .before .before .before .before .before .before .before .before .before .before .before .before .before .before in
+    let i = t .loop .inv in
+    let p = start t .pre .0 in
+    (record { bits-room = omega (arith, p .still .most, i .3); error-room = omega (arith, p .still .most, i .4); keep-room = omega (arith, p .still .most, i .5) },
+    i .2)
+
+loop-less-2 : tie.Need-loop-less-2 Inv-loop μ-loop
+loop-less-2 c =
+    let d = c .before .before .before .before .before .before .before .before .before .before .before .before .before .before .before .before .before .before in
+    omega (arith, d .before .before .before .before .before .before .before .before .before .middle .ensures, d .decide-between .ensures .0)
+
+loop-again-2 : tie.Need-loop-again-2 Inv-loop μ-loop
+loop-again-2 c =
+    let d = c .before .before .before .before .before .before .before .before .before .before .before .before .before .before .before .before .before .before in
+    let m = d .before .before .before .before .before .before .before .before .before in
+    let i = m .before .before .before .loop .inv in (
+      low-moves (i .0) (m .middle .ensures .0) (m .middle .ensures .1) (d .decide-between .ensures .0) (end-taken (c .before .before .before .before .before .before .take-over2 .ensures) (d .decide-between .ensures .1)) (omega (arith, c .before .before .before .before .before .before .before .before .before .before .before .before .before .if2 .left)),
+      i .1,
+      record { bits-room = omega (arith, i .2 .bits-room, c .before .before .before .before .before .before .take-over2 .kept .1 .1 .1 .1 .0); error-room = omega (arith, i .2 .error-room, c .before .before .before .before .before .before .take-over2 .kept .1 .1 .1 .1 .1 .0); keep-room = omega (arith, i .2 .keep-room, c .before .before .before .before .before .before .take-over2 .kept .1 .1 .1 .1 .1 .1 .0) },
+      omega (arith, i .3, d .decide-between .kept .1 .1 .1 .1 .1 .1 .1 .1 .1 .1 .0),
+      omega (arith, i .4, d .decide-between .kept .1 .1 .1 .1 .1 .1 .1 .1 .1 .1 .1 .0),
+      omega (arith, i .5, d .decide-between .kept .1 .1 .1 .1 .1 .1 .1 .1 .1 .1 .1 .1 .0),
+      search needs,
+      search needs,
+      search needs,
+      search needs,
+      search needs,
+      search needs,
+      search needs,
+    )
+
+same-length : tie.Need-same-length Inv-loop μ-loop
+same-length c = search needs
+
+same-length-2 : tie.Need-same-length-2 Inv-loop μ-loop
+same-length-2 c = search needs
+
+same-length-3 : tie.Need-same-length-3 Inv-loop μ-loop
+same-length-3 c = search needs
+
+same-length-4 : tie.Need-same-length-4 Inv-loop μ-loop
+same-length-4 c = search needs
+
+same-length-5 : tie.Need-same-length-5 Inv-loop μ-loop
+same-length-5 c = search needs
+
+same-length-6 : tie.Need-same-length-6 Inv-loop μ-loop
+same-length-6 c = search needs
+
+returns : tie.Need-returns Inv-loop μ-loop
+returns c = c .before .before .loop .inv .0
+
+pub bracket-spec : {M : Type 1} → statement M
+bracket-spec =
+    tie.close
+    (tie.spec
+    Inv-loop
+    μ-loop
+    slice-aggregate-bit-table
+    bit-table-requires
+    loop-holds
+    sub-if1
+    middle-requires
+    add-turn
+    slice-aggregate-decide-between
+    slice-aggregate-decide-between-2
+    slice-aggregate-decide-between-3
+    slice-aggregate-decide-between-4
+    decide-between-requires
+    slice-aggregate-take-over
+    slice-aggregate-take-over-2
+    slice-aggregate-take-over-3
+    take-over-requires
+    loop-less
+    loop-again
+    slice-aggregate-take-over-4
+    slice-aggregate-take-over-5
+    slice-aggregate-take-over-6
+    take-over-requires-2
+    loop-less-2
+    loop-again-2
+    same-length
+    same-length-2
+    same-length-3
+    same-length-4
+    same-length-5
+    same-length-6
+    returns)

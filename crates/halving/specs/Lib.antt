@@ -1,0 +1,2 @@
+pub mod WonAt
+pub mod Between

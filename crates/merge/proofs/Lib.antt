@@ -1,0 +1,10 @@
+pub mod Store
+pub mod Slots
+pub mod Finding
+pub mod Totals
+pub mod Moving
+pub mod Station
+pub mod SettingOut
+pub mod Adding
+pub mod Pass
+pub mod Advancing

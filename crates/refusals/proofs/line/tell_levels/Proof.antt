@@ -1,0 +1,61 @@
+use mathlib.Core.Path.{_≡_}
+use Prim.Native.Nat.{_≤_, _-_}
+use lib.ListN.{length}
+use borrow.Author.Needs.{needs}
+use Rattle.refusals.proofs.line.tell_levels.Statement.{statement}
+use Rattle.refusals.proofs.line.tell_levels.Tie as tie
+use Rattle.refusals.proofs.line.tell_level.Reads as tell-level-reads
+use Rattle.refusals.proofs.line.text.Reads as text-reads
+
+abbrev Inv-loop : tie.InvT-loop
+Inv-loop levels i₀ i-end i = (i-end ≡ length levels) × (i ≤ i-end)
+
+abbrev μ-loop : tie.MeasureT-loop
+μ-loop levels i₀ i-end i = i-end - i
+
+slice-aggregate-text : tie.Need-slice-aggregate-text Inv-loop μ-loop
+slice-aggregate-text c = search needs
+
+text-requires : tie.Need-text-requires Inv-loop μ-loop
+text-requires c κs = search needs
+
+loop-holds : tie.Need-loop-holds Inv-loop μ-loop
+loop-holds c = search needs
+
+mul-tell-level : tie.Need-mul-tell-level Inv-loop μ-loop
+mul-tell-level c = search needs
+
+shared-slice-copy-out-tell-level : tie.Need-shared-slice-copy-out-tell-level Inv-loop μ-loop
+shared-slice-copy-out-tell-level c = search needs
+
+tell-level-requires : tie.Need-tell-level-requires Inv-loop μ-loop
+tell-level-requires c κs = search needs
+
+add-i : tie.Need-add-i Inv-loop μ-loop
+add-i c = search needs
+
+loop-less : tie.Need-loop-less Inv-loop μ-loop
+loop-less c = search needs
+
+loop-again : tie.Need-loop-again Inv-loop μ-loop
+loop-again c = search needs
+
+returns : tie.Need-returns Inv-loop μ-loop
+returns c = search needs
+
+pub tell-levels-spec : {M : Type 1} → statement M
+tell-levels-spec =
+    tie.close
+    (tie.spec
+    Inv-loop
+    μ-loop
+    slice-aggregate-text
+    text-requires
+    loop-holds
+    mul-tell-level
+    shared-slice-copy-out-tell-level
+    tell-level-requires
+    add-i
+    loop-less
+    loop-again
+    returns)

@@ -1,0 +1,4 @@
+pub mod Number
+pub mod Joined
+pub mod Lines
+pub mod Example
