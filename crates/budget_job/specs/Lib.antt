@@ -1,1 +1,2 @@
 pub mod BudgetJob
+pub mod Fitting

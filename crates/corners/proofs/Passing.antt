@@ -14,7 +14,7 @@ use Rattle.corners.proofs.Moves.{course-way}
 use Rattle.corners.proofs.Merge.{merge-fits}
 
 -- Each block may go there.
-goes-onward : {A : Pair → Type 0} {low : ℕ} {H C : Pair} {c d : ℕ} (a b : ℕ) → Course A low H C c d → a * low < b → d * a ≤ b * c
+pub goes-onward : {A : Pair → Type 0} {low : ℕ} {H C : Pair} {c d : ℕ} (a b : ℕ) → Course A low H C c d → a * low < b → d * a ≤ b * c
     → Goes A a b C c d (onward a b C c d)
 goes-onward {A} {low} {H} {C} {c} {d} a b r l h = go (eqb (d * a) (b * c)) (eqb-true (d * a) (b * c))
   where

@@ -19,18 +19,27 @@ use Rattle.corners.proofs.Sums.{total-same}
 use Rattle.attained.specs.Attained.{blockAt}
 use Rattle.attained.proofs.Winning.{attained-bits, attained-error}
 use Rattle.still.specs.Sound.{Sound}
-use Rattle.winners.specs.Winners.{pairAt}
+use Rattle.winners.specs.Winners.{pairAt, Winners}
 use Rattle.winners.proofs.Stored.{stored-pair, other-pair, total-stored}
 use Rattle.halving.specs.declared.End.{End}
-use Rattle.halving.specs.WonAt.{Won, WonAt, EndAt, RoomFor}
+use Rattle.halving.specs.WonAt.{Won, EndAt, RoomFor}
 use Rattle.halving.specs.Between.{endOf, Taken}
+use Rattle.halving.proofs.Won.{gives-won}
+
+pub room-in : {n : ℕ} {bits error keep : List ℕ} → n ≤ 1024 → length bits ≡ 1024 → length error ≡ 1024 → length keep ≡ 1024 → RoomFor n bits error keep
+room-in l x y z = record { bits-room = omega arith; error-room = omega arith; keep-room = omega arith }
+
+pub room-kept : {n : ℕ} {bits error keep bits′ error′ keep′ : List ℕ} → RoomFor n bits error keep
+    → length bits′ ≡ length bits → length error′ ≡ length error → length keep′ ≡ length keep → RoomFor n bits′ error′ keep′
+room-kept r x y z = record { bits-room = omega (arith, r .bits-room); error-room = omega (arith, r .error-room); keep-room = omega (arith, r .keep-room) }
 
 pub room-stored : {n : ℕ} {bits error keep : List ℕ} (i x y z : ℕ) → RoomFor n bits error keep → RoomFor n (set bits i x) (set error i y) (set keep i z)
-room-stored i x y z r = record {
-  bits-room = simp length-set (r .bits-room);
-  error-room = simp length-set (r .error-room);
-  keep-room = simp length-set (r .keep-room);
-}
+room-stored i x y z r = room-kept r (simp length-set) (simp length-set) (simp length-set)
+
+-- what a price gives to all blocks is an end
+pub winners-end : {B : ℕ → Block} {n : ℕ} {e : End} {bits error keep : List ℕ} → Winners B n 1 (e .price) bits error keep
+    → e .bits .0 ≡ (total (pairAt bits error) n) .bits → e .error .0 ≡ (total (pairAt bits error) n) .error → EndAt B n e bits error keep
+winners-end w p q = record { won = record { each = λ i l. gives-won (w .gives i l) }; bits-are = p; error-is = q }
 
 pub end-none : {B : ℕ → Block} {b : ℕ} {bits error keep : List ℕ} → EndAt B 0 (endOf b 0 0) bits error keep
 end-none = record { won = record { each = λ i l. absurd (omega arith) }; bits-are = refl; error-is = refl }

@@ -4,10 +4,8 @@ use mathlib.Core.Path.{_≡_, refl}
 use mathlib.Core.List.{List}
 use Prim.Native.Nat.{ℕ, _-_, _≤_, _<_}
 use native.Mathlib.Omega.{arith}
-use lib.ListN.{length}
 use Rattle.block.specs.Block.{Block}
 use Rattle.price.specs.Price.{Accepted}
-use Rattle.corners.specs.Pair.{Pair}
 use Rattle.corners.specs.Price.{Wins}
 use Rattle.corners.specs.Still.{total, Attains}
 use Rattle.corners.proofs.Corners.{corner-best}

@@ -11,7 +11,7 @@ use Rattle.forward.specs.declared.Chosen.{Chosen}
 use Rattle.halving.specs.declared.End.{End}
 use Rattle.halving.specs.declared.Range.{Range}
 use Rattle.winners.specs.Winners.{pairAt}
-use Rattle.halving.specs.WonAt.{Won, WonAt, RoomFor}
+use Rattle.halving.specs.WonAt.{Won, RoomFor}
 
 abbrev pub pairIn : Chosen → Pair
 pairIn w = record { bits = w .bits .0; error = w .error .0 }

@@ -5,7 +5,7 @@ use price::Bits;
 use price::Error;
 use price::Price;
 ghost use mathlib.Core.Path.{_≡_};
-ghost use Prim.Native.Nat.{_/_, _≤_, _<_};
+ghost use Prim.Native.Nat.{_+_, _/_, _<_};
 ghost use lib.ListN.{length};
 ghost use Rattle.block.specs.Level.{blockOf};
 ghost use Rattle.block.specs.Limits.{Levels, Steps};
@@ -29,15 +29,15 @@ pub struct Range {
     pub high: End,
 }
 
-// Every so many turns the range is halved, so that the turns stay few whatever the errors are.
-const TURNS: usize = 8;
+// One turn in so many halves the range, so that the turns stay few whatever the errors are.
+const ROUND: usize = 8;
 
-// The winner of a block at a price between two others: theirs where they have one, and otherwise searched.
+// The winner of a block at a price between two others: theirs where it is the same, and otherwise the best choice, searched for.
 fn winner(
     levels: &[i16],
     steps: &[u8],
     lengths: &[u8],
-    price: Price,
+    price: u64,
     full: bool,
     table: &[u64],
     place: &mut [usize],
@@ -50,10 +50,10 @@ fn winner(
     cheap: u64,
 ) -> Chosen
     requires block { ⌜ Levels (now levels) × Steps (now steps) × Made (now lengths) (now table) full ⌝ }
-    requires price { ⌜ Accepted (price .a) (price .b) × (price .a ≡ 1) ⌝ }
+    requires price { ⌜ Accepted 1 price ⌝ }
     requires room { ⌜ Room (now place) (now size) (now drop) × Room (now cost) (now sum) (now pred) ⌝ }
-    requires between { ⌜ Between (blockOf (now levels) (now steps) (now lengths)) (price .b) (pairIn dear) (dear .keep) cheap ⌝ }
-    ensures { λ r. ⌜ Won (blockOf (now (levels .entry)) (now (steps .entry)) (now (lengths .entry))) (price .b) (pairIn r) (r .keep) ⌝ }
+    requires between { ⌜ Between (blockOf (now levels) (now steps) (now lengths)) price (pairIn dear) (dear .keep) cheap ⌝ }
+    ensures { λ r. ⌜ Won (blockOf (now (levels .entry)) (now (steps .entry)) (now (lengths .entry))) price (pairIn r) (r .keep) ⌝ }
 {
     if dear.bits.0 == cheap {
         return dear;
@@ -61,7 +61,7 @@ fn winner(
     match search::decide(
         levels,
         steps,
-        price,
+        Price { a: 1, b: price },
         full,
         table,
         place,
@@ -77,12 +77,12 @@ fn winner(
     }
 }
 
-// Stores the winners of all blocks at a price between two others, whose winners are given.
+// Stores each block's winner at a price between two others; `cb`, `ce` and `ck` hold those at the higher, `lb` the bits at the lower.
 fn decide_between(
     levels: &[i16],
     steps: &[u8],
     lengths: &[u8],
-    price: Price,
+    price: u64,
     full: bool,
     table: &[u64],
     cb: &[u64],
@@ -95,10 +95,10 @@ fn decide_between(
 ) -> End
     requires still { ⌜ Sound (now levels) (now steps) (now lengths) (length (now levels) / 64) ⌝ }
     requires table { ⌜ Made (now lengths) (now table) full ⌝ }
-    requires price { ⌜ Accepted (price .a) (price .b) × (price .a ≡ 1) ⌝ }
-    requires between { ⌜ AllBetween (blockAt (now levels) (now steps) (now lengths)) (length (now levels) / 64) (price .b) (now cb) (now ce) (now ck) (now lb) ⌝ }
+    requires price { ⌜ Accepted 1 price ⌝ }
+    requires between { ⌜ AllBetween (blockAt (now levels) (now steps) (now lengths)) (length (now levels) / 64) price (now cb) (now ce) (now ck) (now lb) ⌝ }
     requires room { ⌜ RoomFor (length (now levels) / 64) (now mb) (now me) (now mk) ⌝ }
-    ensures { λ r. ⌜ (r .price ≡ price .b) × EndAt (blockAt (now (levels .entry)) (now (steps .entry)) (now (lengths .entry))) (length (now (levels .entry)) / 64) r (now (mb .exit)) (now (me .exit)) (now (mk .exit)) ⌝ }
+    ensures { λ r. ⌜ (r .price ≡ price) × EndAt (blockAt (now (levels .entry)) (now (steps .entry)) (now (lengths .entry))) (length (now (levels .entry)) / 64) r (now (mb .exit)) (now (me .exit)) (now (mk .exit)) ⌝ }
 {
     let mut place = [0usize; 64];
     let mut size = [0usize; 64];
@@ -141,13 +141,13 @@ fn decide_between(
         i += 1;
     }
     End {
-        price: price.b,
+        price,
         bits: Bits(bits),
         error: Error(error),
     }
 }
 
-// A price inside the range: by turns the slope between its ends, where a winner lies farthest from both, and its middle.
+// A price inside the range: the slope from end to end, at which the winner lies farthest below their line; once a round the middle.
 fn middle(range: Range, turn: usize) -> u64
     requires { ⌜ Wide range ⌝ }
     ensures { λ r. ⌜ (range .low .price < r) × (r < range .high .price) ⌝ }
@@ -167,7 +167,7 @@ fn middle(range: Range, turn: usize) -> u64
     slope
 }
 
-// Moves the numbers of the first n blocks.
+// Copies the numbers of the first n blocks.
 fn take_over(
     n: usize,
     mb: &[u64],
@@ -190,7 +190,8 @@ fn take_over(
     }
 }
 
-// Narrows the range until no price is inside: the winners at a price inside move the end on their side of the budget.
+// Narrows the range until no price is inside: the winners at a price inside become the end on their side of the budget.
+// `cb`, `ce` and `ck` hold the bits, the error and the keep number of each block's winner at the high end, `lb`, `le` and `lk` at the low.
 pub fn bracket(
     levels: &[i16],
     steps: &[u8],
@@ -207,7 +208,8 @@ pub fn bracket(
     requires still { ⌜ Sound (now levels) (now steps) (now lengths) (length (now levels) / 64) ⌝ }
     requires room { ⌜ RoomFor (length (now levels) / 64) (now cb) (now ce) (now ck) × RoomFor (length (now levels) / 64) (now lb) (now le) (now lk) ⌝ }
     requires given { ⌜ Brackets (blockAt (now levels) (now steps) (now lengths)) (length (now levels) / 64) budget given (now cb) (now ce) (now ck) (now lb) (now le) (now lk) ⌝ }
-    ensures { λ r. ⌜ Brackets (blockAt (now (levels .entry)) (now (steps .entry)) (now (lengths .entry))) (length (now (levels .entry)) / 64) budget r (now (cb .exit)) (now (ce .exit)) (now (ck .exit)) (now (lb .exit)) (now (le .exit)) (now (lk .exit)) ⌝ }
+    ensures bracket { λ r. ⌜ Brackets (blockAt (now (levels .entry)) (now (steps .entry)) (now (lengths .entry))) (length (now (levels .entry)) / 64) budget r (now (cb .exit)) (now (ce .exit)) (now (ck .exit)) (now (lb .exit)) (now (le .exit)) (now (lk .exit)) ⌝ }
+    ensures narrow { λ r. ⌜ r .high .price ≡ r .low .price + 1 ⌝ }
 {
     let mut table = [0u64; 704];
     let full = search::bit_table(lengths, &mut table);
@@ -218,11 +220,8 @@ pub fn bracket(
     let mut range = given;
     let mut turn = 1;
     while range.high.price - range.low.price > 1 {
-        let price = Price {
-            a: 1,
-            b: middle(range, turn),
-        };
-        turn = (turn + 1) % TURNS;
+        let price = middle(range, turn);
+        turn = (turn + 1) % ROUND;
         let inside = decide_between(
             levels,
             steps,

@@ -1,1 +1,2 @@
 pub mod ListJob
+pub mod Listing

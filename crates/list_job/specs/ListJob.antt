@@ -9,7 +9,7 @@ use Rattle.corners.specs.Pair.{Pair}
 use Rattle.corners.specs.Still.{Attains}
 use Rattle.corners.specs.Listed.{CornerList, entry, entries}
 use Rattle.attained.specs.Attained.{blockAt, Attained}
-use Rattle.attained.specs.Uncodable.{FirstUncodable}
+use Rattle.attained.specs.Uncodable.{HasChoice, FirstUncodable}
 use Rattle.merge.specs.CornerChoice.{CornerKept}
 use Rattle.answers.specs.declared.CornersAnswer.{CornersAnswer}
 use Rattle.answers.specs.Said.{fine, refuse, saidCorners, corners, refused}
@@ -25,9 +25,9 @@ pub record Stored (B : ℕ → Block) (n : ℕ) (L : List Pair) (before after : 
 -- the answer r and the list after the call, where no check refuses: 7, 8, or every corner is listed
 pub data Lists (B : ℕ → Block) (n : ℕ) (before : List ℕ) (r : CornersAnswer) (after : List ℕ) : Type 0 where
   uncodable : (i : ℕ) → FirstUncodable B n i → saidCorners r ≡ refused 7 i 0 → after ≡ before → Lists B n before r after
-  short : (L : List Pair) → CornerList (Attains (λ i. Attained (B i)) n) L → length before < 3 * length L
+  short : ((i : ℕ) → i < n → HasChoice (B i)) → (L : List Pair) → CornerList (Attains (λ i. Attained (B i)) n) L → length before < 3 * length L
       → saidCorners r ≡ refused 8 (length L) 0 → after ≡ before → Lists B n before r after
-  lists : (L : List Pair) → CornerList (Attains (λ i. Attained (B i)) n) L → 3 * length L ≤ length before
+  lists : ((i : ℕ) → i < n → HasChoice (B i)) → (L : List Pair) → CornerList (Attains (λ i. Attained (B i)) n) L → 3 * length L ≤ length before
       → saidCorners r ≡ corners (length L) → Stored B n L before after → Lists B n before r after
 
 -- the same for whatever is lent

@@ -30,10 +30,10 @@ flatter-still : (c d x y r f : ℕ) → 1 ≤ c → d * x ≤ y * c → y * r < 
 flatter-still c d x y r f l h k = lt-of-mul-lt-mul-left x (omega (arith, mul-le-mul-right r h, mul-le-mul-right c k))
 
 -- The arrays stay as long as they were.
-as-long-itself : {S : Arrays} → AsLong S S
+pub as-long-itself : {S : Arrays} → AsLong S S
 as-long-itself = record { cb = refl; ce = refl; ck = refl; run = refl; fall = refl; height = refl; far = refl }
 
-as-long-both : {S S′ S″ : Arrays} → AsLong S S′ → AsLong S′ S″ → AsLong S S″
+pub as-long-both : {S S′ S″ : Arrays} → AsLong S S′ → AsLong S′ S″ → AsLong S S″
 as-long-both s t = record {
   cb = t .cb ∙ s .cb;
   ce = t .ce ∙ s .ce;
@@ -176,6 +176,7 @@ module _ {B : ℕ → Block} {n low r f : ℕ} {S S′ : Arrays} {tree : List �
       };
       onward = λ i l. there i l (P .each i l);
       sums = P .sums;
+      same = P .same;
     }
       where
         each : (i : ℕ) → i < n → Passed (B i) low (P .from .standing .goal i) r f (at S i) (at S′ i)

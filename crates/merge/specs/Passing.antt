@@ -65,3 +65,4 @@ pub record Advanced (B : ℕ → Block) (n low r f : ℕ) (S S′ : Arrays) (tre
   pub standing : Standing B n low r f S′ tree′
   pub onward : (i : ℕ) → i < n → cornerAt S′ i ≡ onward r f (cornerAt S i) ((at S i) .run) ((at S i) .fall)
   pub sums : Sums n (S′ .cb) (S′ .ce) (S′ .ck) p
+  pub same : AsLong S S′

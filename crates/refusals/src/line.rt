@@ -1,15 +1,19 @@
-// A line for a call: the answer and what was lent, afterwards, behind a label that stands there already.
+// A case's line: the case again, the answer, and what was lent, afterwards.
 use crate::call::Call;
 use answers::KeptAnswer;
 use answers::PointAnswer;
 use answers::Refusal;
 use libc::STDOUT_FILENO;
 
-pub fn text(s: &[u8]) {
+fn text(s: &[u8]) {
     io::write_all(STDOUT_FILENO, s);
 }
 
-pub fn number(x: u64) {
+pub fn echo(c: u8) {
+    text(&[c]);
+}
+
+fn number(x: u64) {
     text(b" ");
     io::print_decimal(STDOUT_FILENO, x);
 }
@@ -51,11 +55,8 @@ fn tell_keep(keep: &[u64]) {
     }
 }
 
-// Block, position and value of a level that is not 0.
+// Block, position and value.
 fn tell_level(i: usize, v: i16) {
-    if v == 0 {
-        return;
-    }
     number((i / 64) as u64);
     text(b"/");
     io::print_decimal(STDOUT_FILENO, (i % 64) as u64);
@@ -69,7 +70,10 @@ fn tell_level(i: usize, v: i16) {
 fn tell_levels(levels: &[i16]) {
     text(b", levels");
     for i in 0..levels.len() {
-        tell_level(i, levels[i]);
+        let v = levels[i];
+        if v != 0 {
+            tell_level(i, v);
+        }
     }
 }
 
@@ -77,7 +81,6 @@ fn run_price(levels: &[i16], steps: &[u8], lengths: &[u8], a: u64, b: u64, keep:
     let r = price_job::price(levels, steps, lengths, a, b, keep);
     tell_point(r);
     tell_keep(keep);
-    text(b"\n");
 }
 
 fn run_thinning(levels: &mut [i16], keep: &[u64]) {
@@ -85,10 +88,9 @@ fn run_thinning(levels: &mut [i16], keep: &[u64]) {
     tell_kept(r);
     tell_keep(keep);
     tell_levels(levels);
-    text(b"\n");
 }
 
-// A call for more than there is leaves its line open.
+// A call for more than there is gets no answer.
 fn lend_price(levels: &[i16], steps: &[u8], lengths: &[u8], keep: &mut [u64], call: Call) {
     let l = call.levels_len;
     let s = call.steps_len;
@@ -114,14 +116,24 @@ fn lend_thinning(levels: &mut [i16], keep: &[u64], call: Call) {
     }
 }
 
-pub fn price(levels: &[i16], call: Call) {
+fn price(call: Call) {
+    let levels = call.levels;
     let steps = call.steps;
     let lengths = call.lengths;
     let mut keep = call.keep;
-    lend_price(levels, &steps, &lengths, &mut keep, call);
+    lend_price(&levels, &steps, &lengths, &mut keep, call);
 }
 
-pub fn thin(levels: &mut [i16], call: Call) {
+fn thin(call: Call) {
+    let mut levels = call.levels;
     let keep = call.keep;
-    lend_thinning(levels, &keep, call);
+    lend_thinning(&mut levels, &keep, call);
+}
+
+pub fn answer(call: Call) {
+    if call.thins {
+        thin(call);
+    } else {
+        price(call);
+    }
 }

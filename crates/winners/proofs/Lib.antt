@@ -1,2 +1,3 @@
 pub mod Stored
 pub mod Turns
+pub mod Told

@@ -7,7 +7,7 @@ use borrow.Author.Needs.{needs}
 use lib.ListN.{length}
 use Rattle.attained.specs.Attained.{blockAt}
 use Rattle.halving.specs.WonAt.{Brackets, RoomFor}
-use Rattle.halving.proofs.Ends.{end-taken}
+use Rattle.halving.proofs.Ends.{room-in, room-kept, end-taken}
 use Rattle.halving.proofs.Narrowing.{brackets-wide, inside-accepted, inside-between, high-moves, low-moves}
 use Rattle.halving.proofs.bracket.Statement.{statement}
 use Rattle.halving.proofs.bracket.Tie as tie
@@ -22,6 +22,13 @@ Inv-loop levels steps lengths budget cb₀ ce₀ ck₀ lb₀ le₀ lk₀ table f
 abbrev μ-loop : tie.MeasureT-loop
 μ-loop levels steps lengths budget cb₀ ce₀ ck₀ lb₀ le₀ lk₀ table full mb₀ me₀ mk₀ n range₀ turn₀ cb ce ck lb le lk mb me mk range turn =
     range .high .price - range .low .price
+
+-- the price of a turn from its winners, and what it starts with
+abbrev priced : tie.After-decide-between Inv-loop μ-loop → tie.After-middle Inv-loop μ-loop
+priced d = d .before .before .before .before .before .before .before .before .before
+
+abbrev turn : tie.After-middle Inv-loop μ-loop → tie.At-loop Inv-loop μ-loop
+turn m = m .before .before .before
 
 abbrev start : tie.At-loop Inv-loop μ-loop → tie.Start Inv-loop μ-loop
 start t = t .before .before .before .before .before .before .before .before .before .before .before .before
@@ -38,16 +45,16 @@ loop-holds c =
       p .1 .1,
       p .1 .0 .0,
       p .1 .0 .1,
-      search needs,
-      search needs,
-      search needs,
-      search needs,
-      search needs,
-      search needs,
-      search needs,
-      search needs,
-      search needs,
-      search needs,
+      refl,
+      refl,
+      refl,
+      omega arith,
+      refl,
+      refl,
+      refl,
+      refl,
+      refl,
+      refl,
     )
 
 sub-if1 : tie.Need-sub-if1 Inv-loop μ-loop
@@ -74,14 +81,21 @@ slice-aggregate-decide-between-4 c = search needs
 decide-between-requires : tie.Need-decide-between-requires Inv-loop μ-loop
 decide-between-requires c κs =
     let m = c .before .before .before .before .before .before .before .before in
-    let t = m .before .before .before in
+    let t = turn m in
     let i = t .loop .inv in
-    let p = start t .pre .0 in
-    (p,
-    (t .before .before .bit-table .ensures,
-    ((inside-accepted (i .0) (m .middle .ensures .0) (m .middle .ensures .1), refl),
-    (inside-between (i .0) (m .middle .ensures .0) (m .middle .ensures .1) (i .1) (i .2),
-    record { bits-room = omega (arith, p .still .most, i .3); error-room = omega (arith, p .still .most, i .4); keep-room = omega (arith, p .still .most, i .5) }))))
+    let p = start t .pre .0 in (
+      p,
+      (
+        t .before .before .bit-table .ensures,
+        (
+          inside-accepted (i .0) (m .middle .ensures .0) (m .middle .ensures .1),
+          (
+            inside-between (i .0) (m .middle .ensures .0) (m .middle .ensures .1) (i .1) (i .2),
+            room-in (p .still .most) (i .3) (i .4) (i .5),
+          ),
+        ),
+      ),
+    )
 
 slice-aggregate-take-over : tie.Need-slice-aggregate-take-over Inv-loop μ-loop
 slice-aggregate-take-over c = search needs
@@ -94,35 +108,38 @@ slice-aggregate-take-over-3 c = search needs
 
 take-over-requires : tie.Need-take-over-requires Inv-loop μ-loop
 take-over-requires c κs =
-    let t = c .before .before .before .before .before .before .before .before .before .before .before .before .before .before .before .before .before .before .before .before .before .before .before in
+    let t = turn (priced (c .before .before .before .before .before .before .before .before .before .before .before)) in
     let i = t .loop .inv in
-    let p = start t .pre .0 in
-    (record { bits-room = omega (arith, p .still .most, i .3); error-room = omega (arith, p .still .most, i .4); keep-room = omega (arith, p .still .most, i .5) },
-    i .1)
+    let p = start t .pre .0 in (
+      room-in (p .still .most) (omega (arith, i .3)) (omega (arith, i .4)) (omega (arith, i .5)),
+      i .1,
+    )
 
 loop-less : tie.Need-loop-less Inv-loop μ-loop
 loop-less c =
     let d = c .before .before .before .before .before .before .before .before .before .before .before .before .before .before .before .before .before .before in
-    omega (arith, d .before .before .before .before .before .before .before .before .before .middle .ensures, d .decide-between .ensures .0)
+    omega (arith, priced d .middle .ensures, d .decide-between .ensures .0)
 
 loop-again : tie.Need-loop-again Inv-loop μ-loop
 loop-again c =
     let d = c .before .before .before .before .before .before .before .before .before .before .before .before .before .before .before .before .before .before in
-    let m = d .before .before .before .before .before .before .before .before .before in
-    let i = m .before .before .before .loop .inv in (
+    let m = priced d in
+    let i = turn m .loop .inv in
+    let h = d .decide-between .kept .1 .1 .1 .1 .1 .1 .1 .1 .1 .1 in
+    let k = c .before .before .before .before .before .before .take-over .kept .1 .1 .1 .1 in (
       high-moves (i .0) (m .middle .ensures .0) (m .middle .ensures .1) (d .decide-between .ensures .0) (end-taken (c .before .before .before .before .before .before .take-over .ensures) (d .decide-between .ensures .1)) (c .before .before .before .before .before .before .before .before .before .before .before .before .before .if2 .taken),
-      record { bits-room = omega (arith, i .1 .bits-room, c .before .before .before .before .before .before .take-over .kept .1 .1 .1 .1 .0); error-room = omega (arith, i .1 .error-room, c .before .before .before .before .before .before .take-over .kept .1 .1 .1 .1 .1 .0); keep-room = omega (arith, i .1 .keep-room, c .before .before .before .before .before .before .take-over .kept .1 .1 .1 .1 .1 .1 .0) },
+      room-kept (i .1) (k .0) (k .1 .0) (k .1 .1 .0),
       i .2,
-      omega (arith, i .3, d .decide-between .kept .1 .1 .1 .1 .1 .1 .1 .1 .1 .1 .0),
-      omega (arith, i .4, d .decide-between .kept .1 .1 .1 .1 .1 .1 .1 .1 .1 .1 .1 .0),
-      omega (arith, i .5, d .decide-between .kept .1 .1 .1 .1 .1 .1 .1 .1 .1 .1 .1 .1 .0),
-      search needs,
-      search needs,
-      search needs,
-      search needs,
-      search needs,
-      search needs,
-      search needs,
+      omega (arith, i .3, h .0),
+      omega (arith, i .4, h .1 .0),
+      omega (arith, i .5, h .1 .1 .0),
+      omega arith,
+      omega (arith, i .7, k .0),
+      omega (arith, i .8, k .1 .0),
+      omega (arith, i .9, k .1 .1 .0),
+      i .10,
+      i .11,
+      i .12,
     )
 
 slice-aggregate-take-over-4 : tie.Need-slice-aggregate-take-over-4 Inv-loop μ-loop
@@ -136,57 +153,60 @@ slice-aggregate-take-over-6 c = search needs
 
 take-over-requires-2 : tie.Need-take-over-requires-2 Inv-loop μ-loop
 take-over-requires-2 c κs =
-    let t = c .before .before .before .before .before .before .before .before .before .before .before .before .before .before .before .before .before .before .before .before .before .before .before in
+    let t = turn (priced (c .before .before .before .before .before .before .before .before .before .before .before)) in
     let i = t .loop .inv in
-    let p = start t .pre .0 in
-    (record { bits-room = omega (arith, p .still .most, i .3); error-room = omega (arith, p .still .most, i .4); keep-room = omega (arith, p .still .most, i .5) },
-    i .2)
+    let p = start t .pre .0 in (
+      room-in (p .still .most) (omega (arith, i .3)) (omega (arith, i .4)) (omega (arith, i .5)),
+      i .2,
+    )
 
 loop-less-2 : tie.Need-loop-less-2 Inv-loop μ-loop
 loop-less-2 c =
     let d = c .before .before .before .before .before .before .before .before .before .before .before .before .before .before .before .before .before .before in
-    omega (arith, d .before .before .before .before .before .before .before .before .before .middle .ensures, d .decide-between .ensures .0)
+    omega (arith, priced d .middle .ensures, d .decide-between .ensures .0)
 
 loop-again-2 : tie.Need-loop-again-2 Inv-loop μ-loop
 loop-again-2 c =
     let d = c .before .before .before .before .before .before .before .before .before .before .before .before .before .before .before .before .before .before in
-    let m = d .before .before .before .before .before .before .before .before .before in
-    let i = m .before .before .before .loop .inv in (
+    let m = priced d in
+    let i = turn m .loop .inv in
+    let h = d .decide-between .kept .1 .1 .1 .1 .1 .1 .1 .1 .1 .1 in
+    let k = c .before .before .before .before .before .before .take-over2 .kept .1 .1 .1 .1 in (
       low-moves (i .0) (m .middle .ensures .0) (m .middle .ensures .1) (d .decide-between .ensures .0) (end-taken (c .before .before .before .before .before .before .take-over2 .ensures) (d .decide-between .ensures .1)) (omega (arith, c .before .before .before .before .before .before .before .before .before .before .before .before .before .if2 .left)),
       i .1,
-      record { bits-room = omega (arith, i .2 .bits-room, c .before .before .before .before .before .before .take-over2 .kept .1 .1 .1 .1 .0); error-room = omega (arith, i .2 .error-room, c .before .before .before .before .before .before .take-over2 .kept .1 .1 .1 .1 .1 .0); keep-room = omega (arith, i .2 .keep-room, c .before .before .before .before .before .before .take-over2 .kept .1 .1 .1 .1 .1 .1 .0) },
-      omega (arith, i .3, d .decide-between .kept .1 .1 .1 .1 .1 .1 .1 .1 .1 .1 .0),
-      omega (arith, i .4, d .decide-between .kept .1 .1 .1 .1 .1 .1 .1 .1 .1 .1 .1 .0),
-      omega (arith, i .5, d .decide-between .kept .1 .1 .1 .1 .1 .1 .1 .1 .1 .1 .1 .1 .0),
-      search needs,
-      search needs,
-      search needs,
-      search needs,
-      search needs,
-      search needs,
-      search needs,
+      room-kept (i .2) (k .0) (k .1 .0) (k .1 .1 .0),
+      omega (arith, i .3, h .0),
+      omega (arith, i .4, h .1 .0),
+      omega (arith, i .5, h .1 .1 .0),
+      omega arith,
+      i .7,
+      i .8,
+      i .9,
+      omega (arith, i .10, k .0),
+      omega (arith, i .11, k .1 .0),
+      omega (arith, i .12, k .1 .1 .0),
     )
 
 same-length : tie.Need-same-length Inv-loop μ-loop
-same-length c = search needs
+same-length c = c .before .before .loop .inv .7
 
 same-length-2 : tie.Need-same-length-2 Inv-loop μ-loop
-same-length-2 c = search needs
+same-length-2 c = c .before .before .loop .inv .8
 
 same-length-3 : tie.Need-same-length-3 Inv-loop μ-loop
-same-length-3 c = search needs
+same-length-3 c = c .before .before .loop .inv .9
 
 same-length-4 : tie.Need-same-length-4 Inv-loop μ-loop
-same-length-4 c = search needs
+same-length-4 c = c .before .before .loop .inv .10
 
 same-length-5 : tie.Need-same-length-5 Inv-loop μ-loop
-same-length-5 c = search needs
+same-length-5 c = c .before .before .loop .inv .11
 
 same-length-6 : tie.Need-same-length-6 Inv-loop μ-loop
-same-length-6 c = search needs
+same-length-6 c = c .before .before .loop .inv .12
 
 returns : tie.Need-returns Inv-loop μ-loop
-returns c = c .before .before .loop .inv .0
+returns c = (c .before .before .loop .inv .0, omega (arith, c .if1 .left, c .before .before .loop .inv .0 .rises))
 
 pub bracket-spec : {M : Type 1} → statement M
 bracket-spec =

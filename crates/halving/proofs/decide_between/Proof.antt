@@ -1,7 +1,7 @@
 -- `halving::decide_between` meets its contract: each turn stores the winner of one block more.
 -- Assumes nothing.
 use mathlib.Core.Path.{_≡_, refl}
-use Prim.Native.Nat.{_+_, _-_, _/_, _≤_}
+use Prim.Native.Nat.{_+_, _-_, _≤_}
 use native.Mathlib.Omega.{arith}
 use borrow.Author.Needs.{needs}
 use lib.ListN.{length, length-set, set}
@@ -16,7 +16,7 @@ use Rattle.halving.proofs.decide_between.Tie as tie
 
 abbrev Inv-loop : tie.InvT-loop
 Inv-loop levels steps lengths price full table cb ce ck lb mb₀ me₀ mk₀ place₀ size₀ drop₀ cost₀ sum₀ pred₀ n bits₀ error₀ i₀ mb me mk place size drop cost sum pred bits error i =
-    EndAt (blockAt levels steps lengths) i (endOf (price .b) bits error) mb me mk × (i ≤ n) × RoomFor n mb me mk
+    EndAt (blockAt levels steps lengths) i (endOf price bits error) mb me mk × (i ≤ n) × RoomFor n mb me mk
     × Room place size drop × Room cost sum pred
     × (length mb ≡ length mb₀) × (length me ≡ length me₀) × (length mk ≡ length mk₀)
 
@@ -34,7 +34,7 @@ next : (w : tie.After-winner Inv-loop μ-loop) →
     let a = start (turn w) .args in
     let l = turn w .before .loop in
     let r = w .winner .result in
-    EndAt (blockAt (a .levels .now) (a .steps .now) (a .lengths .now)) (l .i + 1) (endOf (a .price .b) (l .bits + r .bits .0) (l .error + r .error .0))
+    EndAt (blockAt (a .levels .now) (a .steps .now) (a .lengths .now)) (l .i + 1) (endOf (a .price) (l .bits + r .bits .0) (l .error + r .error .0))
     (set (l .mb) (l .i) (r .bits .0)) (set (l .me) (l .i) (r .error .0)) (set (l .mk) (l .i) (r .keep))
 next w =
     let a = start (turn w) .args in

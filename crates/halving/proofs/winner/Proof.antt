@@ -12,7 +12,7 @@ decide-requires : tie.Need-decide-requires
 decide-requires c κs =
     let s = c .before .before .before .before .before .before .before .before .before .before .before .before .before .before .before .before .before in
     let block = s .pre .0 in (
-      s .pre .1 .0 .0,
+      s .pre .1 .0,
       (
         record { levels-fine = block .0; steps-fine = block .1; lengths = s .args .lengths .now; table = block .2 .table; full-is = block .2 .full-is },
         (s .pre .1 .1 .0 .0, s .pre .1 .1 .0 .1),
@@ -47,7 +47,7 @@ returns-2 : tie.Need-returns-2
 returns-2 c =
     let d = c .before .before .before .before .before .before .before .before .before .before .before .before .before .before .before in
     let s = d .before .before .before .before .before .before .before .before .before .before .before .before .before .before .before .before .before .before in
-    decided-won (s .pre .0 .2) (d .decide .ensures) (s .pre .1 .0 .1) (c .before .w .given .1)
+    decided-won (s .pre .0 .2) (d .decide .ensures) (c .before .w .given .1)
 
 same-length-7 : tie.Need-same-length-7
 same-length-7 c = search needs

@@ -1,13 +1,19 @@
+-- `refusals::call::k5_and_one_more` is safe and ends: the index stays below 256.
+-- Assumes nothing.
 use Prim.Native.Nat.{_≤_, _-_}
 use borrow.Author.Needs.{needs}
 use Rattle.refusals.proofs.call.k5_and_one_more.Statement.{statement}
 use Rattle.refusals.proofs.call.k5_and_one_more.Tie as tie
+use Rattle.block.proofs.tables.k5.Reads as k5-reads
 
 abbrev Inv-loop : tie.InvT-loop
 Inv-loop table lengths₀ i₀ lengths i = i ≤ 256
 
 abbrev μ-loop : tie.MeasureT-loop
 μ-loop table lengths₀ i₀ lengths i = 256 - i
+
+k5-requires : tie.Need-k5-requires Inv-loop μ-loop
+k5-requires c κs = search needs
 
 loop-holds : tie.Need-loop-holds Inv-loop μ-loop
 loop-holds c = search needs
@@ -36,6 +42,7 @@ k5-and-one-more-spec =
     (tie.spec
     Inv-loop
     μ-loop
+    k5-requires
     loop-holds
     array-read-lengths
     array-write-lengths

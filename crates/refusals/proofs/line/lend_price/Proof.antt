@@ -1,7 +1,9 @@
-use native.Mathlib.Omega.{arith}
-use borrow.Author.Tests.{leb-true}
+-- `refusals::line::lend_price` is safe and ends: the tests say that each part is within its whole.
+-- Assumes nothing.
 use mathlib.Core.Path.{sym}
+use native.Mathlib.Omega.{arith}
 use lib.Seq.{length-take-le}
+use borrow.Author.Tests.{leb-true}
 use borrow.Author.Needs.{needs}
 use Rattle.refusals.proofs.line.lend_price.Statement.{statement}
 use Rattle.refusals.proofs.line.lend_price.Tie as tie

@@ -1,11 +1,11 @@
+-- `refusals::line::tell_keep` is safe and ends: the index stays within the slice.
+-- Assumes nothing.
 use mathlib.Core.Path.{_≡_}
 use Prim.Native.Nat.{_≤_, _-_}
 use lib.ListN.{length}
 use borrow.Author.Needs.{needs}
 use Rattle.refusals.proofs.line.tell_keep.Statement.{statement}
 use Rattle.refusals.proofs.line.tell_keep.Tie as tie
-use Rattle.refusals.proofs.line.number.Reads as number-reads
-use Rattle.refusals.proofs.line.text.Reads as text-reads
 
 abbrev Inv-loop : tie.InvT-loop
 Inv-loop keep i₀ i-end i = (i-end ≡ length keep) × (i ≤ i-end)

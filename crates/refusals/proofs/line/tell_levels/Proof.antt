@@ -1,11 +1,11 @@
+-- `refusals::line::tell_levels` is safe and ends: the index stays within the slice.
+-- Assumes nothing.
 use mathlib.Core.Path.{_≡_}
 use Prim.Native.Nat.{_≤_, _-_}
 use lib.ListN.{length}
 use borrow.Author.Needs.{needs}
 use Rattle.refusals.proofs.line.tell_levels.Statement.{statement}
 use Rattle.refusals.proofs.line.tell_levels.Tie as tie
-use Rattle.refusals.proofs.line.tell_level.Reads as tell-level-reads
-use Rattle.refusals.proofs.line.text.Reads as text-reads
 
 abbrev Inv-loop : tie.InvT-loop
 Inv-loop levels i₀ i-end i = (i-end ≡ length levels) × (i ≤ i-end)
@@ -22,11 +22,11 @@ text-requires c κs = search needs
 loop-holds : tie.Need-loop-holds Inv-loop μ-loop
 loop-holds c = search needs
 
-mul-tell-level : tie.Need-mul-tell-level Inv-loop μ-loop
-mul-tell-level c = search needs
+mul-v : tie.Need-mul-v Inv-loop μ-loop
+mul-v c = search needs
 
-shared-slice-copy-out-tell-level : tie.Need-shared-slice-copy-out-tell-level Inv-loop μ-loop
-shared-slice-copy-out-tell-level c = search needs
+shared-slice-copy-out-v : tie.Need-shared-slice-copy-out-v Inv-loop μ-loop
+shared-slice-copy-out-v c = search needs
 
 tell-level-requires : tie.Need-tell-level-requires Inv-loop μ-loop
 tell-level-requires c κs = search needs
@@ -52,8 +52,8 @@ tell-levels-spec =
     slice-aggregate-text
     text-requires
     loop-holds
-    mul-tell-level
-    shared-slice-copy-out-tell-level
+    mul-v
+    shared-slice-copy-out-v
     tell-level-requires
     add-i
     loop-less

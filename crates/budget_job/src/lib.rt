@@ -1,0 +1,185 @@
+// The budget job: the corner with most bits that fits, with its choice, or a refusal that stores nothing.
+use answers::Checked;
+use answers::Kind;
+use answers::Point;
+use answers::PointAnswer;
+use answers::Refusal;
+use halving::End;
+use halving::Range;
+use price::Bits;
+use price::Error;
+use price::Price;
+use winners::Outcome;
+ghost use mathlib.Core.Path.{_≡_};
+ghost use Prim.Native.Nat.{_/_, _≤_};
+ghost use lib.ListN.{length};
+ghost use Rattle.attained.specs.Attained.{blockAt};
+ghost use Rattle.answers.specs.Said.{numberOf, saidPoint, refused as saidRefused};
+ghost use Rattle.still.specs.Sound.{Sound};
+ghost use Rattle.halving.specs.WonAt.{EndAt, RoomFor};
+ghost use Rattle.fitting.specs.Fitting.{FitsThere};
+ghost use Rattle.budget_job.specs.BudgetJob.{Fitted, BudgetMeets};
+ghost use Rattle.budget_job.specs.Fitting.{Answered, Reaches};
+
+fn wide(budget: u32) -> u64
+    ensures { λ r. ⌜ r ≡ budget ⌝ }
+{
+    budget as u64
+}
+
+fn refused(kind: Kind, first: u64) -> PointAnswer
+    ensures { λ r. ⌜ saidPoint r ≡ saidRefused (numberOf kind) first 0 ⌝ }
+{
+    PointAnswer::Refused(Refusal {
+        kind,
+        first,
+        second: 0,
+    })
+}
+
+// Stores the keep numbers and answers the point.
+fn answer(bits: Bits, error: Error, chosen: &[u64], keep: &mut [u64]) -> PointAnswer
+    requires { ⌜ (length (now keep) ≤ length (now chosen)) × (length (now keep) ≤ 1024) ⌝ }
+    ensures { λ r. ⌜ Answered bits error (now (chosen .entry)) (now (keep .entry)) r (now (keep .exit)) ⌝ }
+{
+    copy::copy(chosen, keep);
+    PointAnswer::Point(Point {
+        bits,
+        error,
+        kept: kept::kept(keep),
+    })
+}
+
+// From the winners at a price that fit the budget to the last corner that does, on the way to those that pass it.
+fn walk_between(
+    levels: &[i16],
+    steps: &[u8],
+    lengths: &[u8],
+    budget: u64,
+    low: u64,
+    cb: &mut [u64],
+    ce: &mut [u64],
+    ck: &mut [u64],
+    gb: &[u64],
+    ge: &[u64],
+    gk: &[u64],
+) -> Point
+    requires still { ⌜ Sound (now levels) (now steps) (now lengths) (length (now levels) / 64) ⌝ }
+    requires reach { ⌜ Reaches (blockAt (now levels) (now steps) (now lengths)) (length (now levels) / 64) budget low (now cb) (now ce) (now ck) (now gb) (now ge) (now gk) ⌝ }
+    ensures { λ p. ⌜ FitsThere (blockAt (now (levels .entry)) (now (steps .entry)) (now (lengths .entry))) (length (now (levels .entry)) / 64) budget (now (cb .exit)) (now (ce .exit)) (now (ck .exit)) p ⌝ }
+{
+    let mut table = [0u64; 704];
+    let full = search::bit_table(lengths, &mut table);
+    let mut place = [0usize; 64];
+    let mut size = [0usize; 64];
+    let mut drop = [0u64; 64];
+    let mut cost = [0u64; 64];
+    let mut sum = [0u64; 64];
+    let mut pred = [0usize; 64];
+    let mut run = [0u64; 1024];
+    let mut fall = [0u64; 1024];
+    let mut height = [0usize; 1024];
+    let mut far = [0u64; 24576];
+    let mut tree = [0usize; 2048];
+    let n = levels.len() / 64;
+    let p = merge::set_out(
+        levels, steps, lengths, full, &table, &mut place, &mut size, &mut drop, &mut cost, &mut sum,
+        &mut pred, n, low, cb, ce, ck, gb, ge, gk, &mut run, &mut fall, &mut height, &mut far,
+        &mut tree,
+    );
+    fitting::walk_to(
+        levels, steps, lengths, full, &table, &mut place, &mut size, &mut drop, &mut cost, &mut sum,
+        &mut pred, n, low, budget, cb, ce, ck, &mut run, &mut fall, &mut height, &mut far,
+        &mut tree, p,
+    )
+}
+
+// The winners at the dearest price fit: either all levels do, or two prices bracket the budget.
+fn fit_above(
+    levels: &[i16],
+    steps: &[u8],
+    lengths: &[u8],
+    budget: u64,
+    high: End,
+    cb: &mut [u64],
+    ce: &mut [u64],
+    ck: &mut [u64],
+    keep: &mut [u64],
+) -> PointAnswer
+    requires still { ⌜ Sound (now levels) (now steps) (now lengths) (length (now levels) / 64) ⌝ }
+    requires high { ⌜ (high .price ≡ 8000000000000) × EndAt (blockAt (now levels) (now steps) (now lengths)) (length (now levels) / 64) high (now cb) (now ce) (now ck) × (high .bits .0 ≤ budget) ⌝ }
+    requires room { ⌜ RoomFor (length (now levels) / 64) (now cb) (now ce) (now ck) × (length (now keep) ≡ length (now levels) / 64) ⌝ }
+    ensures { λ r. ⌜ Fitted (blockAt (now (levels .entry)) (now (steps .entry)) (now (lengths .entry))) (length (now (levels .entry)) / 64) budget (now (keep .entry)) r (now (keep .exit)) ⌝ }
+{
+    let mut lb = [0u64; 1024];
+    let mut le = [0u64; 1024];
+    let mut lk = [0u64; 1024];
+    match winners::winners(levels, steps, lengths, Price::FREE, &mut lb, &mut le, &mut lk) {
+        Outcome::Uncodable(i) => refused(Kind::Uncodable, i as u64),
+        Outcome::All(bits, error) => {
+            if bits.0 <= budget {
+                return answer(bits, error, &lk, keep);
+            }
+            let low = End {
+                price: 0,
+                bits,
+                error,
+            };
+            let range = halving::bracket(
+                levels, steps, lengths, budget, Range { low, high }, cb, ce, ck, &mut lb, &mut le,
+                &mut lk,
+            );
+            let p = walk_between(
+                levels, steps, lengths, budget, range.low.price, cb, ce, ck, &lb, &le, &lk,
+            );
+            answer(p.bits, p.error, ck, keep)
+        }
+    }
+}
+
+fn fit_still(
+    levels: &[i16],
+    steps: &[u8],
+    lengths: &[u8],
+    budget: u64,
+    keep: &mut [u64],
+) -> PointAnswer
+    requires still { ⌜ Sound (now levels) (now steps) (now lengths) (length (now levels) / 64) ⌝ }
+    requires room { ⌜ length (now keep) ≡ length (now levels) / 64 ⌝ }
+    ensures { λ r. ⌜ Fitted (blockAt (now (levels .entry)) (now (steps .entry)) (now (lengths .entry))) (length (now (levels .entry)) / 64) budget (now (keep .entry)) r (now (keep .exit)) ⌝ }
+{
+    let mut cb = [0u64; 1024];
+    let mut ce = [0u64; 1024];
+    let mut ck = [0u64; 1024];
+    match winners::winners(levels, steps, lengths, Price::DEAREST, &mut cb, &mut ce, &mut ck) {
+        Outcome::Uncodable(i) => refused(Kind::Uncodable, i as u64),
+        Outcome::All(bits, error) => {
+            if budget < bits.0 {
+                return refused(Kind::Budget, bits.0);
+            }
+            let high = End {
+                price: 8000000000000,
+                bits,
+                error,
+            };
+            fit_above(
+                levels, steps, lengths, budget, high, &mut cb, &mut ce, &mut ck, keep,
+            )
+        }
+    }
+}
+
+pub fn fit(
+    levels: &[i16],
+    steps: &[u8],
+    lengths: &[u8],
+    budget: u32,
+    keep: &mut [u64],
+) -> PointAnswer
+    ensures { λ r. ⌜ BudgetMeets (now (levels .entry)) (now (steps .entry)) (now (lengths .entry)) budget (now (keep .entry)) r (now (keep .exit)) ⌝ }
+{
+    match still::check_budget(levels, steps, lengths, keep.len()) {
+        Checked::Refused(r) => PointAnswer::Refused(r),
+        Checked::Fine => fit_still(levels, steps, lengths, wide(budget), keep),
+    }
+}

@@ -1,0 +1,69 @@
+// A word of a case, read byte by byte: `price`, `levels=63`, `level[67]=-1024`.
+pub struct Word {
+    // The first letter; 0 before it is read.
+    pub letter: u8,
+    pub indexed: bool,
+    pub index: u64,
+    pub negative: bool,
+    pub value: u64,
+}
+
+pub fn new() -> Word {
+    Word {
+        letter: 0,
+        indexed: false,
+        index: 0,
+        negative: false,
+        value: 0,
+    }
+}
+
+// The negative levels of the cases.
+fn negative(n: u64) -> i16 {
+    match n {
+        1023 => -1023,
+        1024 => -1024,
+        _ => -32768,
+    }
+}
+
+impl Word {
+    // The numbers of the cases are below 10 * 2^60.
+    fn digit(mut self, d: u8) -> Word {
+        if self.value < 1 << 60 {
+            self.value = self.value * 10 + (d as u64);
+        }
+        self
+    }
+
+    // A blank or a newline starts the next word.
+    pub fn read(mut self, c: u8) -> Word {
+        match c {
+            b' ' | b'\n' => return new(),
+            b'0'..=b'9' => return self.digit(c - b'0'),
+            b']' => {
+                self.indexed = true;
+                self.index = self.value;
+                self.value = 0;
+            }
+            b'-' => self.negative = true,
+            _ => {
+                if self.letter == 0 {
+                    self.letter = c;
+                }
+            }
+        }
+        self
+    }
+
+    pub fn level(self) -> i16 {
+        if self.negative {
+            return negative(self.value);
+        }
+        (self.value % 32768) as i16
+    }
+
+    pub fn byte(self) -> u8 {
+        (self.value % 256) as u8
+    }
+}

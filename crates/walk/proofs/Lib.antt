@@ -1,0 +1,3 @@
+pub mod Writing
+pub mod Going
+pub mod Listing
