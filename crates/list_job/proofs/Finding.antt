@@ -58,6 +58,9 @@ module _ {B : ℕ → Block} {n : ℕ} where
         (λ i l. gives-wins (B i) (w .gives i l));
   }
 
+  pub all-codable : {a b : ℕ} {cb ce ck : List ℕ} → Winners B n a b cb ce ck → (i : ℕ) → i < n → HasChoice (B i)
+  all-codable w i l = let g = w .gives i l in record { choice = g .choice; codable = g .best .codable }
+
   pub found-none : {before after : List ℕ} {r : Found} {i : ℕ} → Finds B n before r after → r ≡ found.Uncodable i → FirstUncodable B n i
   found-none {i = i} (uncodable j u e p) f = let k : j ≡ i = cc in rw k at u
   found-none (corners c a w e) f = let z : _≡_ {A = ℕ} 0 1 = cc in absurd (omega arith)

@@ -37,24 +37,24 @@ none = record { bits = 0; error = 0 }
 
 entries-at : (out : List ℕ) (m k : ℕ) → k < m → getD (entries out m) k none ≡ entry out k
 entries-at out zero k h = absurd (omega arith)
-entries-at out (suc m) k h = go (ℕ-discrete k m)
+entries-at out (suc m) k h = go (ℕ-discrete k m) (entries-at out m k)
   where
-    go : Dec (k ≡ m) → getD (entries out m ++ (entry out m ∷ [])) k none ≡ entry out k
-    go (yes e) =
+    go : Dec (k ≡ m) → (k < m → getD (entries out m) k none ≡ entry out k) → getD (entries out m ++ (entry out m ∷ [])) k none ≡ entry out k
+    go (yes e) f =
         let l : k ≡ length (entries out m) + 0 = omega (arith, entries-long out m) in
         ap (λ (j : ℕ). getD (entries out m ++ (entry out m ∷ [])) j none) l ∙ getD-append-add (entries out m) (entry out m ∷ []) 0 none ∙ ap (entry out) (sym e)
-    go (no u) = List·getD-append (entries out m) (entry out m ∷ []) none k (omega (arith, entries-long out m)) ∙ entries-at out m k (omega arith)
+    go (no u) f = List·getD-append (entries out m) (entry out m ∷ []) none k (omega (arith, entries-long out m)) ∙ f (omega arith)
 
 entry-is : (x y : List ℕ) (m k : ℕ) → k < m → entries x m ≡ entries y m → entry x k ≡ entry y k
 entry-is x y m k h e = sym (entries-at x m k h) ∙ ap (λ (l : List Pair). getD l k none) e ∙ entries-at y m k h
 
 entry-member : (out : List ℕ) (m k : ℕ) → k < m → List·Memᴰ (entry out k) (entries out m)
 entry-member out zero k h = absurd (omega arith)
-entry-member out (suc m) k h = go (ℕ-discrete k m)
+entry-member out (suc m) k h = go (ℕ-discrete k m) (entry-member out m k)
   where
-    go : Dec (k ≡ m) → List·Memᴰ (entry out k) (entries out m ++ (entry out m ∷ []))
-    go (yes e) = Memᴰ·append-right (entries out m) (List·Memᴰ·head (ap (entry out) e))
-    go (no u) = Memᴰ·append-left (entry-member out m k (omega arith))
+    go : Dec (k ≡ m) → (k < m → List·Memᴰ (entry out k) (entries out m)) → List·Memᴰ (entry out k) (entries out m ++ (entry out m ∷ []))
+    go (yes e) f = Memᴰ·append-right (entries out m) (List·Memᴰ·head (ap (entry out) e))
+    go (no u) f = Memᴰ·append-left (entry out m ∷ []) (f (omega arith))
 
 module _ {B : ℕ → Block} {n : ℕ} where
   -- a number of the list by its place: of an entry, or behind

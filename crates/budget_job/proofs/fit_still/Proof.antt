@@ -1,73 +1,73 @@
+-- `budget_job::fit_still` meets its contract: nothing fits, or the winners at the dearest price do.
+-- Assumes nothing.
+use mathlib.Core.Path.{refl, ap}
+use native.Mathlib.Omega.{arith}
+use Rattle.price.specs.declared.Bits.{Bits}
+use Rattle.winners.proofs.Told.{told-uncodable, told-all}
+use Rattle.budget_job.specs.BudgetJob.{uncodable}
+use Rattle.budget_job.proofs.Reaching.{none-fits, end-at, roomy, sound-limits}
 use borrow.Author.Needs.{needs}
 use Rattle.budget_job.proofs.fit_still.Statement.{statement}
 use Rattle.budget_job.proofs.fit_still.Tie as tie
-use Rattle.budget_job.proofs.fit_still.Reads as reads
-use Rattle.budget_job.proofs.fit_still.Lts as lts
-use Rattle.budget_job.proofs.fit_above.Reads as fit-above-reads
-use Rattle.budget_job.proofs.refused.Reads as refused-reads
-use Rattle.winners.proofs.winners.Reads as winners-reads
 
--- src/lib.rt:154:68
 slice-aggregate-winners : tie.Need-slice-aggregate-winners
 slice-aggregate-winners c = search needs
 
--- src/lib.rt:154:77
 slice-aggregate-winners-2 : tie.Need-slice-aggregate-winners-2
 slice-aggregate-winners-2 c = search needs
 
--- src/lib.rt:154:86
 slice-aggregate-winners-3 : tie.Need-slice-aggregate-winners-3
 slice-aggregate-winners-3 c = search needs
 
--- src/lib.rt:154:11
 winners-requires : tie.Need-winners-requires
-winners-requires c κs = ?
+winners-requires c κs = let p = c .before .before .before .before .before .before .pre in let few = p .0 .still .most in (p .0, (record { a-low = omega arith; a-high = omega arith; b-high = omega arith }, (few, few, few)))
 
--- src/lib.rt:155:28
 enum-known-i : tie.Need-enum-known-i
 enum-known-i c = search needs
 
--- src/lib.rt:155:34
 refused-requires : tie.Need-refused-requires
 refused-requires c κs = search needs
 
--- src/lib.rt:156:22
 enum-known-bits : tie.Need-enum-known-bits
 enum-known-bits c = search needs
 
--- src/lib.rt:158:17
 refused-requires-2 : tie.Need-refused-requires-2
 refused-requires-2 c κs = search needs
 
--- src/lib.rt:158:17
 returns : tie.Need-returns
-returns c = ?
+returns c = 
+    let t = told-all (c .before .before .before .before .before .before .before .before .before .winners .ensures) (c .before .before .before .before .bits .given .1) in
+    none-fits (sound-limits (c .before .before .before .before .before .before .before .before .before .before .before .before .before .before .before .before .pre .0)) (t .0) (ap (λ (z : Bits). z .0) (t .1)) (c .before .if1 .taken) (c .refused2 .ensures)
 
--- src/lib.rt:166:55
 slice-aggregate-fit-above : tie.Need-slice-aggregate-fit-above
 slice-aggregate-fit-above c = search needs
 
--- src/lib.rt:166:64
 slice-aggregate-fit-above-2 : tie.Need-slice-aggregate-fit-above-2
 slice-aggregate-fit-above-2 c = search needs
 
--- src/lib.rt:166:73
 slice-aggregate-fit-above-3 : tie.Need-slice-aggregate-fit-above-3
 slice-aggregate-fit-above-3 c = search needs
 
--- src/lib.rt:165:13
 fit-above-requires : tie.Need-fit-above-requires
-fit-above-requires c κs = ?
+fit-above-requires c κs = 
+    let p = c .before .before .before .before .before .before .before .before .before .before .before .before .before .before .before .before .before .before .before .pre in
+    let few = p .0 .still .most in
+    let w = c .before .before .before .before .before .before .before .before .before .before .before .before .winners in
+    let t = told-all (w .ensures) (c .before .before .before .before .before .before .before .bits .given .1) in
+    (
+      p .0,
+      (
+        (refl, end-at (t .0) refl refl (t .1) (t .2), omega (arith, c .before .before .before .before .if1 .left)),
+        (roomy _ _ _ (omega (arith, few, w .kept .1 .1 .1 .1 .0)) (omega (arith, few, w .kept .1 .1 .1 .1 .1 .0)) (omega (arith, few, w .kept .1 .1 .1 .1 .1 .1 .0)), p .1),
+      ),
+    )
 
--- src/lib.rt:140:1
 returns-2 : tie.Need-returns-2
-returns-2 c = ?
+returns-2 c = uncodable _ (told-uncodable (c .before .before .before .before .before .before .before .winners .ensures) (c .before .before .i .given .1)) (c .refused .ensures) refl
 
--- src/lib.rt:140:1
 same-length : tie.Need-same-length
 same-length c = search needs
 
--- src/lib.rt:140:1
 returns-3 : tie.Need-returns-3
 returns-3 c = search needs
 

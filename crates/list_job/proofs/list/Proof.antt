@@ -1,3 +1,9 @@
+use mathlib.Core.Path.{_≡_, refl, sym, ap, _∙_}
+use lib.ListN.{length}
+use Rattle.answers.specs.Said.{fine, saidCheck}
+use Rattle.still.specs.Refusals.{listVerdict}
+use Rattle.still.proofs.Fine.{list-verdict-fine}
+use Rattle.list_job.specs.ListJob.{refuses, answers}
 use borrow.Author.Needs.{needs}
 use Rattle.list_job.proofs.list.Statement.{statement}
 use Rattle.list_job.proofs.list.Tie as tie
@@ -19,12 +25,17 @@ enum-told : tie.Need-enum-told
 enum-told c = search needs
 
 -- src/lib.rt:132:26
+-- what no refusal leaves
+fine-told : (c : tie.After-enum-told)
+    → listVerdict (c .before .before .before .before .before .before .args .levels .now) (c .before .before .before .before .before .before .args .steps .now) (c .before .before .before .before .before .before .args .lengths .now) (length (c .before .before .before .before .before .before .args .list .now)) ≡ fine
+fine-told c = sym (c .before .before .check-list .ensures) ∙ ap saidCheck (c .enum-told .given .1)
+
 list-still-requires : tie.Need-list-still-requires
-list-still-requires c κs = ?
+list-still-requires c κs = list-verdict-fine _ _ _ _ (fine-told (c .before)) .0
 
 -- src/lib.rt:127:1
 returns : tie.Need-returns
-returns c = ?
+returns c = refuses _ _ _ (sym (c .before .before .before .check-list .ensures) ∙ ap saidCheck (c .before .r .given .1)) refl refl
 
 -- src/lib.rt:127:1
 same-length : tie.Need-same-length
@@ -32,7 +43,7 @@ same-length c = search needs
 
 -- src/lib.rt:127:1
 returns-2 : tie.Need-returns-2
-returns-2 c = ?
+returns-2 c = answers (fine-told (c .before .before .before .before)) (c .before .before .list-still .ensures)
 
 pub list-spec : {M : Type 1} → statement M
 list-spec =

@@ -1,3 +1,5 @@
+use mathlib.Core.Path.{refl}
+use native.Mathlib.Omega.{arith}
 use borrow.Author.Needs.{needs}
 use Rattle.list_job.proofs.walk_all.Statement.{statement}
 use Rattle.list_job.proofs.walk_all.Tie as tie
@@ -65,11 +67,25 @@ slice-aggregate-set-out-12 c = search needs
 
 -- src/lib.rt:68:9
 set-out-requires : tie.Need-set-out-requires
-set-out-requires c κs = ?
+set-out-requires c κs = 
+    let p = c .before .before .before .before .before .before .before .before .before .before .before .before .before .before .before .before .before .before .before .before .before .before .before .before .before .before .before .pre in
+    let n = p .0 .still .most in
+    ( record { sound = p .0; made = c .before .before .before .before .before .before .before .before .before .before .before .before .before .before .before .before .bit-table .ensures; low-most = omega arith }
+    , p .1 .ends
+    , record {
+        run-long = n;
+        fall-long = n;
+        height-long = n;
+        far-long = omega (arith, n);
+        gathered = record { first = refl; second = refl; third = refl };
+        searched = record { first = refl; second = refl; third = refl };
+      }
+    , omega (arith, n)
+    )
 
 -- src/lib.rt:74:39
 slice-aggregate-list-corners : tie.Need-slice-aggregate-list-corners
-slice-aggregate-list-corners c = ?
+slice-aggregate-list-corners c = c .before .before .before .before .before .before .before .before .before .before .before .before .before .before .before .before .before .before .before .before .before .before .before .before .before .before .before .before .before .bit-table .kept .1 .0
 
 -- src/lib.rt:74:47
 slice-aggregate-list-corners-2 : tie.Need-slice-aggregate-list-corners-2
@@ -117,19 +133,27 @@ slice-aggregate-list-corners-12 c = search needs
 
 -- src/lib.rt:73:5
 list-corners-requires : tie.Need-list-corners-requires
-list-corners-requires c κs = ?
+list-corners-requires c κs = 
+    let p = c .before .before .before .before .before .before .before .before .before .before .before .before .before .before .before .before .before .before .before .before .before .before .before .before .before .before .before .before .before .before .before .before .before .before .before .before .before .before .before .before .before .before .before .before .before .before .before .before .before .before .before .before .before .before .before .pre in
+    let s = c .before .before .before .before .before .before .before .before .before .before .before .before .before .before .before .before .before .before .before .before .before .before .before .before .before .before .before .set-out in
+    let o = s .ensures .0 in
+    ( record { sound = p .0; made = c .before .before .before .before .before .before .before .before .before .before .before .before .before .before .before .before .before .before .before .before .before .before .before .before .before .before .before .before .before .before .before .before .before .before .before .before .before .before .before .before .before .before .before .before .bit-table .ensures; low-most = omega arith }
+    , record { first = s .kept .1 .1 .1 .1 .1 .0; second = s .kept .1 .1 .1 .1 .1 .1 .0; third = s .kept .1 .1 .1 .1 .1 .1 .1 .0 }
+    , record { first = s .kept .1 .1 .1 .1 .1 .1 .1 .1 .0; second = s .kept .1 .1 .1 .1 .1 .1 .1 .1 .1 .0; third = s .kept .1 .1 .1 .1 .1 .1 .1 .1 .1 .1 .0 }
+    , record { a = o .a; b = o .b; standing = o .standing; sums = s .ensures .1; least = p .1 .least }
+    )
 
 -- src/lib.rt:38:1
 same-length : tie.Need-same-length
-same-length c = ?
+same-length c = c .before .before .before .before .before .before .before .before .before .before .before .before .before .before .before .before .before .before .before .list-corners .kept .1 .1 .1 .1 .1 .1 .1 .1 .1 .1 .1 .1 .0
 
 -- src/lib.rt:38:1
 same-length-2 : tie.Need-same-length-2
-same-length-2 c = ?
+same-length-2 c = c .before .before .before .before .before .before .before .before .before .before .before .before .before .before .before .before .before .before .before .list-corners .kept .1 .1 .1 .1 .1 .1 .1 .1 .1 .1 .1 .1 .1 .0
 
 -- src/lib.rt:38:1
 same-length-3 : tie.Need-same-length-3
-same-length-3 c = ?
+same-length-3 c = c .before .before .before .before .before .before .before .before .before .before .before .before .before .before .before .before .before .before .before .list-corners .kept .1 .1 .1 .1 .1 .1 .1 .1 .1 .1 .1 .1 .1 .1 .0
 
 -- src/lib.rt:38:1
 same-length-4 : tie.Need-same-length-4
