@@ -83,14 +83,55 @@ fn walk_between(
     let mut tree = [0usize; 2048];
     let n = levels.len() / 64;
     let p = merge::set_out(
-        levels, steps, lengths, full, &table, &mut place, &mut size, &mut drop, &mut cost, &mut sum,
-        &mut pred, n, low, cb, ce, ck, gb, ge, gk, &mut run, &mut fall, &mut height, &mut far,
+        levels,
+        steps,
+        lengths,
+        full,
+        &table,
+        &mut place,
+        &mut size,
+        &mut drop,
+        &mut cost,
+        &mut sum,
+        &mut pred,
+        n,
+        low,
+        cb,
+        ce,
+        ck,
+        gb,
+        ge,
+        gk,
+        &mut run,
+        &mut fall,
+        &mut height,
+        &mut far,
         &mut tree,
     );
     fitting::walk_to(
-        levels, steps, lengths, full, &table, &mut place, &mut size, &mut drop, &mut cost, &mut sum,
-        &mut pred, n, low, budget, cb, ce, ck, &mut run, &mut fall, &mut height, &mut far,
-        &mut tree, p,
+        levels,
+        steps,
+        lengths,
+        full,
+        &table,
+        &mut place,
+        &mut size,
+        &mut drop,
+        &mut cost,
+        &mut sum,
+        &mut pred,
+        n,
+        low,
+        budget,
+        cb,
+        ce,
+        ck,
+        &mut run,
+        &mut fall,
+        &mut height,
+        &mut far,
+        &mut tree,
+        p,
     )
 }
 
@@ -114,7 +155,15 @@ fn fit_above(
     let mut lb = [0u64; 1024];
     let mut le = [0u64; 1024];
     let mut lk = [0u64; 1024];
-    match winners::winners(levels, steps, lengths, Price::FREE, &mut lb, &mut le, &mut lk) {
+    match winners::winners(
+        levels,
+        steps,
+        lengths,
+        Price::FREE,
+        &mut lb,
+        &mut le,
+        &mut lk,
+    ) {
         Outcome::Uncodable(i) => refused(Kind::Uncodable, i as u64),
         Outcome::All(bits, error) => {
             if bits.0 <= budget {
@@ -126,11 +175,30 @@ fn fit_above(
                 error,
             };
             let range = halving::bracket(
-                levels, steps, lengths, budget, Range { low, high }, cb, ce, ck, &mut lb, &mut le,
+                levels,
+                steps,
+                lengths,
+                budget,
+                Range { low, high },
+                cb,
+                ce,
+                ck,
+                &mut lb,
+                &mut le,
                 &mut lk,
             );
             let p = walk_between(
-                levels, steps, lengths, budget, range.low.price, cb, ce, ck, &lb, &le, &lk,
+                levels,
+                steps,
+                lengths,
+                budget,
+                range.low.price,
+                cb,
+                ce,
+                ck,
+                &lb,
+                &le,
+                &lk,
             );
             answer(p.bits, p.error, ck, keep)
         }
@@ -151,7 +219,15 @@ fn fit_still(
     let mut cb = [0u64; 1024];
     let mut ce = [0u64; 1024];
     let mut ck = [0u64; 1024];
-    match winners::winners(levels, steps, lengths, Price::DEAREST, &mut cb, &mut ce, &mut ck) {
+    match winners::winners(
+        levels,
+        steps,
+        lengths,
+        Price::DEAREST,
+        &mut cb,
+        &mut ce,
+        &mut ck,
+    ) {
         Outcome::Uncodable(i) => refused(Kind::Uncodable, i as u64),
         Outcome::All(bits, error) => {
             if budget < bits.0 {
@@ -163,7 +239,15 @@ fn fit_still(
                 error,
             };
             fit_above(
-                levels, steps, lengths, budget, high, &mut cb, &mut ce, &mut ck, keep,
+                levels,
+                steps,
+                lengths,
+                budget,
+                high,
+                &mut cb,
+                &mut ce,
+                &mut ck,
+                keep,
             )
         }
     }

@@ -1,19 +1,17 @@
 -- From the walk along the corners to the job's answer: what is remembered is stored, or the list is walked again.
 -- Assumes nothing.
-use mathlib.Core.Path.{_≡_, refl, ap, sym, subst, _∙_}
+use mathlib.Core.Path.{_≡_, refl, ap, sym, _∙_}
 use mathlib.Core.List.{List}
 use Prim.Native.Nat.{ℕ, zero, suc, _+_, _*_, _/_, _≤_, _<_}
 use native.Mathlib.Decide.{decLe}
-use native.Mathlib.Nat.{div-mul-le-self, div-lt-iff-lt-mul}
 use native.Mathlib.Omega.{arith}
 use lib.ListN.{length, getD, take}
 use lib.Seq.{take-length}
 use Rattle.block.specs.Block.{Block}
-use Rattle.block.specs.Limits.{Limits, mostError}
+use Rattle.block.specs.Limits.{Limits}
 use Rattle.price.specs.Price.{mostOnBits}
 use Rattle.corners.specs.Pair.{Pair}
-use Rattle.corners.specs.Still.{total, Attains}
-use Rattle.corners.specs.Listed.{CornerList, entry, entries}
+use Rattle.corners.specs.Listed.{entry, entries}
 use Rattle.corners.proofs.Corners.{pair-path}
 use Rattle.corners.proofs.Dearest.{dearest-fewest}
 use Rattle.corners.proofs.Unique.{list-unique}
@@ -23,11 +21,10 @@ use Rattle.attained.proofs.Winning.{gives-wins, attained-error}
 use Rattle.answers.specs.declared.CornersAnswer.{CornersAnswer}
 use Rattle.answers.specs.Said.{saidCorners, corners, refused}
 use Rattle.winners.specs.Winners.{pairAt, Winners}
-use Rattle.merge.specs.CornerChoice.{CornerKept}
 use Rattle.walk.specs.Written.{Written, Walked}
 use Rattle.list_job.specs.declared.Found.{Found}
 use Rattle.list_job.specs.declared.Found.the-variants as found
-use Rattle.list_job.specs.ListJob.{Stored, Lists, Lists.uncodable, Lists.short, Lists.lists}
+use Rattle.list_job.specs.ListJob.{Lists, Lists.uncodable, Lists.short, Lists.lists}
 use Rattle.list_job.specs.Listing.{FromFirst, Finds, Finds.uncodable, Finds.corners}
 
 -- entries of equal numbers are equal
@@ -59,7 +56,7 @@ module _ {B : ℕ → Block} {n : ℕ} where
   }
 
   pub all-codable : {a b : ℕ} {cb ce ck : List ℕ} → Winners B n a b cb ce ck → (i : ℕ) → i < n → HasChoice (B i)
-  all-codable w i l = let g = w .gives i l in record { choice = g .choice; codable = g .best .codable }
+  all-codable w i l = let g = w .gives i l in record { choice = g .choice; codable = g .best .allowed }
 
   pub found-none : {before after : List ℕ} {r : Found} {i : ℕ} → Finds B n before r after → r ≡ found.Uncodable i → FirstUncodable B n i
   found-none {i = i} (uncodable j u e p) f = let k : j ≡ i = cc in rw k at u
@@ -86,7 +83,7 @@ module _ {B : ℕ → Block} {n : ℕ} where
       let e = held-all w h in
       ap (entries y) (sym e) ∙ w .pairs ∙ ap (λ (k : ℕ). take k L) e ∙ take-length L
 
-  pub stored-seen : {seen seen′ list after : List ℕ} {c : ℕ} {r : CornersAnswer} → ((i : ℕ) → i < n → HasChoice (B i)) → Walked B n seen c seen′ → 3 * c ≤ length seen → (length list / 3 < c → ⊥)
+  pub stored-seen : {seen seen′ list after : List ℕ} {c : ℕ} {r : CornersAnswer} → ((i : ℕ) → i < n → HasChoice (B i)) → Walked B n seen c seen′ → 3 * c ≤ length seen → c ≤ length list / 3
       → length after ≡ length list → ((k : ℕ) → k < 3 * c → getD after k 0 ≡ getD seen′ k 0) → ((k : ℕ) → 3 * c ≤ k → getD after k 0 ≡ getD list k 0)
       → saidCorners r ≡ corners c → Lists B n list r after
   stored-seen {seen} {seen′} {list} {after} {c} all w room enough long copied behind s =
@@ -103,7 +100,7 @@ module _ {B : ℕ → Block} {n : ℕ} where
       })
 
   -- walked again, into the list itself
-  pub stored-again : {seen seen′ list after : List ℕ} {c : ℕ} {r : CornersAnswer} {f : Found} → ((i : ℕ) → i < n → HasChoice (B i)) → Walked B n seen c seen′ → (length list / 3 < c → ⊥)
+  pub stored-again : {seen seen′ list after : List ℕ} {c : ℕ} {r : CornersAnswer} {f : Found} → ((i : ℕ) → i < n → HasChoice (B i)) → Walked B n seen c seen′ → c ≤ length list / 3
       → Finds B n list f after → saidCorners r ≡ corners c → Lists B n list r after
   stored-again all w enough (uncodable i u e p) s = let h = all i (u .within) in absurd (u .none (h .choice) (h .codable))
   stored-again {list = list} {after = after} {c = c} all w enough (corners d a v e) s =

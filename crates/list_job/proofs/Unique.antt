@@ -2,28 +2,23 @@
 -- Assumes nothing.
 use mathlib.Core.Path.{_≡_, refl, sym, ap, subst, _∙_}
 use mathlib.Core.List.{List, [], _∷_, _++_, List·Memᴰ, List·Memᴰ·head, Memᴰ·append-right, Memᴰ·append-left}
-use Prim.Native.Nat.{ℕ, zero, suc, _+_, _*_, _/_, _-_, _%_, _≤_, _<_}
+use Prim.Native.Nat.{ℕ, zero, suc, _+_, _*_, _/_, _%_, _≤_, _<_}
 use native.Mathlib.Decide.{decLe, ℕ-discrete}
-use native.Mathlib.Nat.{eq-or-lt-of-le}
 use native.Mathlib.Omega.{arith}
 use lib.IntN.{ℤ}
-use lib.ListN.{length, getD, length-append}
+use lib.ListN.{length, getD, length-append, List·getD-append}
 use lib.Seq.{ext-getD, getD-append-add}
-use lib.ListN.{List·getD-append}
 use Rattle.block.specs.Block.{Block}
 use Rattle.corners.specs.Pair.{Pair}
 use Rattle.corners.specs.Corner.{Corner}
 use Rattle.corners.specs.Still.{Attains}
 use Rattle.corners.specs.Listed.{CornerList, entry, entries}
 use Rattle.corners.proofs.Unique.{list-unique}
-use Rattle.attained.specs.Attained.{blockAt, Attained}
+use Rattle.attained.specs.Attained.{Attained}
 use Rattle.attained.specs.Uncodable.{HasChoice, FirstUncodable}
 use Rattle.attained.proofs.Uncodable.{uncodable-unique}
 use Rattle.answers.specs.declared.CornersAnswer.{CornersAnswer}
-use Rattle.answers.specs.Said.{fine, saidCorners, corners, refused}
 use Rattle.answers.proofs.Same.{corners-same}
-use Rattle.still.specs.Refusals.{listVerdict}
-use Rattle.merge.specs.CornerChoice.{CornerKept}
 use Rattle.settled.proofs.OneChoice.{kept-unique}
 use Rattle.list_job.specs.ListJob.{Stored, Lists, uncodable, short, lists, ListMeets, refuses, answers}
 
@@ -63,9 +58,6 @@ module _ {B : ℕ → Block} {n : ℕ} where
   stored-at C s t j (yes h) = s .behind j h ∙ sym (t .behind j h)
   stored-at {L} {before} {x} {y} C s t j (no h) = part (j % 3) refl
     where
-      k : ℕ
-      k = j / 3
-
       inside : j / 3 < length L
       inside = omega arith
 

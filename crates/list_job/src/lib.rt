@@ -66,13 +66,54 @@ fn walk_all(
     let mut tree = [0usize; 2048];
     let n = levels.len() / 64;
     let p = merge::set_out(
-        levels, steps, lengths, full, &table, &mut place, &mut size, &mut drop, &mut cost, &mut sum,
-        &mut pred, n, 0, cb, ce, ck, gb, ge, gk, &mut run, &mut fall, &mut height, &mut far,
+        levels,
+        steps,
+        lengths,
+        full,
+        &table,
+        &mut place,
+        &mut size,
+        &mut drop,
+        &mut cost,
+        &mut sum,
+        &mut pred,
+        n,
+        0,
+        cb,
+        ce,
+        ck,
+        gb,
+        ge,
+        gk,
+        &mut run,
+        &mut fall,
+        &mut height,
+        &mut far,
         &mut tree,
     );
     walk::list_corners(
-        levels, steps, lengths, full, &table, &mut place, &mut size, &mut drop, &mut cost, &mut sum,
-        &mut pred, n, cb, ce, ck, &mut run, &mut fall, &mut height, &mut far, &mut tree, p, out,
+        levels,
+        steps,
+        lengths,
+        full,
+        &table,
+        &mut place,
+        &mut size,
+        &mut drop,
+        &mut cost,
+        &mut sum,
+        &mut pred,
+        n,
+        cb,
+        ce,
+        ck,
+        &mut run,
+        &mut fall,
+        &mut height,
+        &mut far,
+        &mut tree,
+        p,
+        out,
     )
 }
 
@@ -84,21 +125,42 @@ fn find_corners(levels: &[i16], steps: &[u8], lengths: &[u8], out: &mut [u64]) -
     let mut cb = [0u64; 1024];
     let mut ce = [0u64; 1024];
     let mut ck = [0u64; 1024];
-    if let Outcome::Uncodable(i) =
-        winners::winners(levels, steps, lengths, Price::DEAREST, &mut cb, &mut ce, &mut ck)
-    {
+    if let Outcome::Uncodable(i) = winners::winners(
+        levels,
+        steps,
+        lengths,
+        Price::DEAREST,
+        &mut cb,
+        &mut ce,
+        &mut ck,
+    ) {
         return Found::Uncodable(i);
     }
     let mut gb = [0u64; 1024];
     let mut ge = [0u64; 1024];
     let mut gk = [0u64; 1024];
-    if let Outcome::Uncodable(i) =
-        winners::winners(levels, steps, lengths, Price::FREE, &mut gb, &mut ge, &mut gk)
-    {
+    if let Outcome::Uncodable(i) = winners::winners(
+        levels,
+        steps,
+        lengths,
+        Price::FREE,
+        &mut gb,
+        &mut ge,
+        &mut gk,
+    ) {
         return Found::Uncodable(i);
     }
     Found::Corners(walk_all(
-        levels, steps, lengths, &mut cb, &mut ce, &mut ck, &gb, &ge, &gk, out,
+        levels,
+        steps,
+        lengths,
+        &mut cb,
+        &mut ce,
+        &mut ck,
+        &gb,
+        &ge,
+        &gk,
+        out,
     ))
 }
 

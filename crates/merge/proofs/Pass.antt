@@ -157,7 +157,7 @@ module _ {B : ℕ → Block} {n low r f : ℕ} {S S′ : Arrays} {tree : List �
             → (at S′ k) .fall * r < f * (at S′ k) .run
         go (waits e) =
             let l : (at S′ k) .fall * r ≤ f * (at S′ k) .run =
-                subst (λ (s : Station). s .fall * r ≤ f * s .run) (sym e) (flat (P .from) k (last .within)) in
+            subst (λ (s : Station). s .fall * r ≤ f * s .run) (sym e) (flat (P .from) k (last .within)) in
             omega arith
         go (gone q e u) = omega (arith, u .stands .flatter)
 

@@ -98,10 +98,10 @@ module _ {B : ℕ → Block} {n low : ℕ} {cb ce ck gb ge gk : List ℕ} (E : E
     headed-more {run} {fall} {height} {run′} {fall′} {height′} {far″} H x y z W = record {
       heads = λ ck. below-more (λ (j : ℕ). Heads (B j) low (pairAt gb ge j) (at (arrays cb ce ck run′ fall′ height′ far″) j)) i
           (λ j m. let u : j ≡ i → ⊥ = λ q. omega arith in subst (Heads (B j) low (pairAt gb ge j))
-              (sym (station-path {s = at (arrays cb ce ck run′ fall′ height′ far″) j} {s′ = at (arrays cb ce ck run fall height far) j} refl refl
-              (elsewhere (W .run-is) u) (elsewhere (W .fall-is) u) (elsewhere (W .height-is) u) (W .found .other j u ∙ a .other j u))) (H .heads ck j m))
+          (sym (station-path {s = at (arrays cb ce ck run′ fall′ height′ far″) j} {s′ = at (arrays cb ce ck run fall height far) j} refl refl
+          (elsewhere (W .run-is) u) (elsewhere (W .fall-is) u) (elsewhere (W .height-is) u) (W .found .other j u ∙ a .other j u))) (H .heads ck j m))
           (subst (λ (Q : Pair). Heads (B i) low Q (at (arrays cb ce ck run′ fall′ height′ far″) i)) (a .goal)
-              (heads-on at-goal (W .found .found) (here (W .run-is) x) (here (W .fall-is) y) (here (W .height-is) z)));
+          (heads-on at-goal (W .found .found) (here (W .run-is) x) (here (W .fall-is) y) (here (W .height-is) z)));
     }
 
     -- One block more heads for its goal.

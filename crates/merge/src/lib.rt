@@ -3,7 +3,6 @@ use answers::Point;
 use price::Bits;
 use price::Error;
 use ways::Ahead;
-
 ghost use mathlib.Core.Path.{_≡_};
 ghost use lib.ListN.{length};
 ghost use Prim.Native.Nat.{_+_, _*_, _^_, _≤_, _<_};
@@ -99,7 +98,22 @@ fn set_way(
     ensures { λ _. ⌜ WaySet (blockAt (now (levels .entry)) (now (steps .entry)) (now (lengths .entry)) k) (record { bits = b; error = e }) low h k (now (run .entry)) (now (fall .entry)) (now (height .entry)) (now (far .entry)) (now (run .exit)) (now (fall .exit)) (now (height .exit)) (now (far .exit)) ⌝ }
 {
     let w = way_from(
-        levels, steps, lengths, full, bits, place, size, drop, cost, sum, pred, k, b, e, h, low,
+        levels,
+        steps,
+        lengths,
+        full,
+        bits,
+        place,
+        size,
+        drop,
+        cost,
+        sum,
+        pred,
+        k,
+        b,
+        e,
+        h,
+        low,
         far,
     );
     run[k] = w.run;
@@ -155,8 +169,26 @@ fn head_out(
     while i < n {
         let h = aim(i, cb, gb, ge, gk, far);
         set_way(
-            levels, steps, lengths, full, bits, place, size, drop, cost, sum, pred, i, cb[i],
-            ce[i], h, low, run, fall, height, far,
+            levels,
+            steps,
+            lengths,
+            full,
+            bits,
+            place,
+            size,
+            drop,
+            cost,
+            sum,
+            pred,
+            i,
+            cb[i],
+            ce[i],
+            h,
+            low,
+            run,
+            fall,
+            height,
+            far,
         );
         i += 1;
     }
@@ -227,8 +259,28 @@ pub fn set_out(
     ensures sums { λ p. ⌜ Sums n (now (cb .entry)) (now (ce .entry)) (now (ck .entry)) p ⌝ }
 {
     head_out(
-        levels, steps, lengths, full, bits, place, size, drop, cost, sum, pred, n, low, cb, ce, gb,
-        ge, gk, run, fall, height, far,
+        levels,
+        steps,
+        lengths,
+        full,
+        bits,
+        place,
+        size,
+        drop,
+        cost,
+        sum,
+        pred,
+        n,
+        low,
+        cb,
+        ce,
+        gb,
+        ge,
+        gk,
+        run,
+        fall,
+        height,
+        far,
     );
     steepest::build(run, fall, n, tree);
     together(n, cb, ce, ck)
@@ -249,8 +301,7 @@ fn take_corner(
 {
     let bits = was.bits.0 + far[at] - cb[k];
     let error = was.error.0 + far[at + 1] - ce[k];
-    let kept =
-        was.kept + u64::count_ones(far[at + 2]) as u64 - u64::count_ones(ck[k]) as u64;
+    let kept = was.kept + u64::count_ones(far[at + 2]) as u64 - u64::count_ones(ck[k]) as u64;
     cb[k] = far[at];
     ce[k] = far[at + 1];
     ck[k] = far[at + 2];
@@ -294,8 +345,26 @@ fn move_block(
     let h = height[k] - 1;
     let p = take_corner(k, 24 * k + 3 * h, cb, ce, ck, far, was);
     set_way(
-        levels, steps, lengths, full, bits, place, size, drop, cost, sum, pred, k, cb[k], ce[k],
-        h, low, run, fall, height, far,
+        levels,
+        steps,
+        lengths,
+        full,
+        bits,
+        place,
+        size,
+        drop,
+        cost,
+        sum,
+        pred,
+        k,
+        cb[k],
+        ce[k],
+        h,
+        low,
+        run,
+        fall,
+        height,
+        far,
     );
     p
 }
@@ -341,8 +410,27 @@ pub fn advance(
             return p;
         }
         p = move_block(
-            levels, steps, lengths, full, bits, place, size, drop, cost, sum, pred, k, low, cb, ce,
-            ck, run, fall, height, far, p,
+            levels,
+            steps,
+            lengths,
+            full,
+            bits,
+            place,
+            size,
+            drop,
+            cost,
+            sum,
+            pred,
+            k,
+            low,
+            cb,
+            ce,
+            ck,
+            run,
+            fall,
+            height,
+            far,
+            p,
         );
         steepest::mend(run, fall, n, tree, k);
     }

@@ -1,6 +1,5 @@
 // The still walks along its corners, past all of them, and lists them.
 use answers::Point;
-
 ghost use Prim.Native.Nat.{_≤_};
 ghost use Rattle.attained.specs.Attained.{blockAt};
 ghost use Rattle.forward.specs.Given.{Room};
@@ -66,8 +65,30 @@ pub fn list_corners(
             return count;
         }
         p = merge::advance(
-            levels, steps, lengths, full, bits, place, size, drop, cost, sum, pred, n, 0, r, f, cb,
-            ce, ck, run, fall, height, far, tree, p,
+            levels,
+            steps,
+            lengths,
+            full,
+            bits,
+            place,
+            size,
+            drop,
+            cost,
+            sum,
+            pred,
+            n,
+            0,
+            r,
+            f,
+            cb,
+            ce,
+            ck,
+            run,
+            fall,
+            height,
+            far,
+            tree,
+            p,
         );
     }
 }

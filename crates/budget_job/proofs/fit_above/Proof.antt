@@ -40,7 +40,7 @@ same-length : tie.Need-same-length
 same-length c = search needs
 
 returns : tie.Need-returns
-returns c = 
+returns c =
     let t = told-all (c .before .before .before .before .before .before .before .before .before .before .before .before .before .winners .ensures) (c .before .before .before .before .before .before .before .before .bits .given .1) in
     all-fit (t .0) (t .1) (t .2) (c .before .before .before .before .before .if1 .taken) (c .before .before .before .before .before .before .before .before .before .before .before .before .before .before .before .before .before .before .before .before .before .before .before .pre .1 .1 .1) (c .before .before .answer .ensures)
 
@@ -54,12 +54,11 @@ slice-aggregate-bracket-3 : tie.Need-slice-aggregate-bracket-3
 slice-aggregate-bracket-3 c = search needs
 
 bracket-requires : tie.Need-bracket-requires
-bracket-requires c κs = 
+bracket-requires c κs =
     let p = c .before .before .before .before .before .before .before .before .before .before .before .before .before .before .before .before .before .before .before .before .before .before .before .before .pre in
     let few = p .0 .still .most in
     let w = c .before .before .before .before .before .before .before .before .before .before .before .before .before .before .winners in
-    let t = told-all (w .ensures) (c .before .before .before .before .before .before .before .before .before .bits .given .1) in
-    (
+    let t = told-all (w .ensures) (c .before .before .before .before .before .before .before .before .before .bits .given .1) in (
       p .0,
       (
         (p .1 .1 .0, roomy _ _ _ (omega (arith, few, w .kept .1 .1 .1 .1 .0)) (omega (arith, few, w .kept .1 .1 .1 .1 .1 .0)) (omega (arith, few, w .kept .1 .1 .1 .1 .1 .1 .0))),
@@ -77,23 +76,21 @@ slice-aggregate-walk-between-3 : tie.Need-slice-aggregate-walk-between-3
 slice-aggregate-walk-between-3 c = search needs
 
 walk-between-requires : tie.Need-walk-between-requires
-walk-between-requires c κs = 
+walk-between-requires c κs =
     let p = c .before .before .before .before .before .before .before .before .before .before .before .before .before .before .before .before .before .before .before .before .before .before .before .before .before .before .before .before .before .before .before .before .before .before .before .before .before .before .before .before .pre in
     let few = p .0 .still .most in
     let w = c .before .before .before .before .before .before .before .before .before .before .before .before .before .before .before .before .before .before .before .before .before .before .before .before .before .before .before .before .before .before .winners in
     let k = c .before .before .before .before .before .before .before .before .before .before .before .before .before .before .before .bracket in
-    let h = p .1 .1 .0 in
-    (
+    let h = p .1 .1 .0 in (
       p .0,
       reaches (sound-limits (p .0)) (k .ensures .0)
-      (roomy _ _ _ (omega (arith, h .bits-room, k .kept .1 .1 .1 .1 .1 .0)) (omega (arith, h .error-room, k .kept .1 .1 .1 .1 .1 .1 .0)) (omega (arith, h .keep-room, k .kept .1 .1 .1 .1 .1 .1 .1 .0)))
-      (roomy _ _ _ (omega (arith, few, w .kept .1 .1 .1 .1 .0, k .kept .1 .1 .1 .1 .1 .1 .1 .1 .0)) (omega (arith, few, w .kept .1 .1 .1 .1 .1 .0, k .kept .1 .1 .1 .1 .1 .1 .1 .1 .1 .0)) (omega (arith, few, w .kept .1 .1 .1 .1 .1 .1 .0, k .kept .1 .1 .1 .1 .1 .1 .1 .1 .1 .1 .0))),
+          (roomy _ _ _ (omega (arith, h .bits-room, k .kept .1 .1 .1 .1 .1 .0)) (omega (arith, h .error-room, k .kept .1 .1 .1 .1 .1 .1 .0)) (omega (arith, h .keep-room, k .kept .1 .1 .1 .1 .1 .1 .1 .0)))
+          (roomy _ _ _ (omega (arith, few, w .kept .1 .1 .1 .1 .0, k .kept .1 .1 .1 .1 .1 .1 .1 .1 .0)) (omega (arith, few, w .kept .1 .1 .1 .1 .1 .0, k .kept .1 .1 .1 .1 .1 .1 .1 .1 .1 .0)) (omega (arith, few, w .kept .1 .1 .1 .1 .1 .1 .0, k .kept .1 .1 .1 .1 .1 .1 .1 .1 .1 .1 .0))),
     )
 
 answer-requires-2 : tie.Need-answer-requires-2
-answer-requires-2 c κs = 
-    let p = c .before .before .before .before .before .before .before .before .before .before .before .before .before .before .before .before .before .before .before .before .before .before .before .before .before .before .before .before .before .before .before .before .before .before .before .before .before .before .before .before .before .before .before .before .before .before .before .before .before .pre in
-    (
+answer-requires-2 c κs =
+    let p = c .before .before .before .before .before .before .before .before .before .before .before .before .before .before .before .before .before .before .before .before .before .before .before .before .before .before .before .before .before .before .before .before .before .before .before .before .before .before .before .before .before .before .before .before .before .before .before .before .before .pre in (
       omega (arith, p .1 .1 .1, p .1 .1 .0 .keep-room, c .before .before .before .before .before .before .before .before .before .before .before .before .before .before .before .before .before .before .before .before .before .before .before .before .bracket .kept .1 .1 .1 .1 .1 .1 .1 .0, c .before .before .before .before .before .before .before .before .walk-between .kept .1 .1 .1 .1 .1 .1 .1 .0),
       omega (arith, p .1 .1 .1, p .0 .still .most),
     )

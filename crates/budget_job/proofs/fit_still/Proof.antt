@@ -35,7 +35,7 @@ refused-requires-2 : tie.Need-refused-requires-2
 refused-requires-2 c κs = search needs
 
 returns : tie.Need-returns
-returns c = 
+returns c =
     let t = told-all (c .before .before .before .before .before .before .before .before .before .winners .ensures) (c .before .before .before .before .bits .given .1) in
     none-fits (sound-limits (c .before .before .before .before .before .before .before .before .before .before .before .before .before .before .before .before .pre .0)) (t .0) (ap (λ (z : Bits). z .0) (t .1)) (c .before .if1 .taken) (c .refused2 .ensures)
 
@@ -49,12 +49,11 @@ slice-aggregate-fit-above-3 : tie.Need-slice-aggregate-fit-above-3
 slice-aggregate-fit-above-3 c = search needs
 
 fit-above-requires : tie.Need-fit-above-requires
-fit-above-requires c κs = 
+fit-above-requires c κs =
     let p = c .before .before .before .before .before .before .before .before .before .before .before .before .before .before .before .before .before .before .before .pre in
     let few = p .0 .still .most in
     let w = c .before .before .before .before .before .before .before .before .before .before .before .before .winners in
-    let t = told-all (w .ensures) (c .before .before .before .before .before .before .before .bits .given .1) in
-    (
+    let t = told-all (w .ensures) (c .before .before .before .before .before .before .before .bits .given .1) in (
       p .0,
       (
         (refl, end-at (t .0) refl refl (t .1) (t .2), omega (arith, c .before .before .before .before .if1 .left)),

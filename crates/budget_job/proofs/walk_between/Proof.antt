@@ -50,10 +50,9 @@ slice-aggregate-set-out-12 : tie.Need-slice-aggregate-set-out-12
 slice-aggregate-set-out-12 c = search needs
 
 set-out-requires : tie.Need-set-out-requires
-set-out-requires c κs = 
+set-out-requires c κs =
     let p = c .before .before .before .before .before .before .before .before .before .before .before .before .before .before .before .before .before .before .before .before .before .before .before .before .before .before .pre in
-    let few = p .0 .still .most in
-    (
+    let few = p .0 .still .most in (
       record { sound = p .0; made = c .before .before .before .before .before .before .before .before .before .before .before .before .before .before .before .before .bit-table .ensures; low-most = p .1 .low-most },
       (
         p .1 .ends,
@@ -108,10 +107,9 @@ slice-aggregate-walk-to-12 : tie.Need-slice-aggregate-walk-to-12
 slice-aggregate-walk-to-12 c = search needs
 
 walk-to-requires : tie.Need-walk-to-requires
-walk-to-requires c κs = 
+walk-to-requires c κs =
     let p = c .before .before .before .before .before .before .before .before .before .before .before .before .before .before .before .before .before .before .before .before .before .before .before .before .before .before .before .before .before .before .before .before .before .before .before .before .before .before .before .before .before .before .before .before .before .before .before .before .before .before .before .before .before .pre in
-    let s = c .before .before .before .before .before .before .before .before .before .before .before .before .before .before .before .before .before .before .before .before .before .before .before .before .before .before .set-out in
-    (
+    let s = c .before .before .before .before .before .before .before .before .before .before .before .before .before .before .before .before .before .before .before .before .before .before .before .before .before .before .set-out in (
       record { sound = p .0; made = c .before .before .before .before .before .before .before .before .before .before .before .before .before .before .before .before .before .before .before .before .before .before .before .before .before .before .before .before .before .before .before .before .before .before .before .before .before .before .before .before .before .before .before .bit-table .ensures; low-most = p .1 .low-most },
       (
         record {

@@ -1,3 +1,5 @@
+-- `list_job::find_corners` meets its contract: it walks once every block has its first and its last corner.
+-- Assumes nothing.
 use mathlib.Core.Path.{refl}
 use native.Mathlib.Omega.{arith}
 use Rattle.block.proofs.Limited.{block-limits}
@@ -7,104 +9,81 @@ use Rattle.list_job.proofs.Finding.{from-first, all-codable}
 use borrow.Author.Needs.{needs}
 use Rattle.list_job.proofs.find_corners.Statement.{statement}
 use Rattle.list_job.proofs.find_corners.Tie as tie
-use Rattle.list_job.proofs.find_corners.Reads as reads
-use Rattle.list_job.proofs.find_corners.Lts as lts
-use Rattle.list_job.proofs.walk_all.Reads as walk-all-reads
-use Rattle.winners.proofs.winners.Reads as winners-reads
 
--- src/lib.rt:88:66
 slice-aggregate-winners : tie.Need-slice-aggregate-winners
 slice-aggregate-winners c = search needs
 
--- src/lib.rt:88:75
 slice-aggregate-winners-2 : tie.Need-slice-aggregate-winners-2
 slice-aggregate-winners-2 c = search needs
 
--- src/lib.rt:88:84
 slice-aggregate-winners-3 : tie.Need-slice-aggregate-winners-3
 slice-aggregate-winners-3 c = search needs
 
--- src/lib.rt:88:9
 winners-requires : tie.Need-winners-requires
-winners-requires c κs = let s = c .before .before .before .before .before .before .pre in (s, record { a-low = omega arith; a-high = omega arith; b-high = omega arith }, s .still .most, s .still .most, s .still .most)
+winners-requires c κs = let s = c .before .before .before .before .before .before .pre in (s, (record { a-low = omega arith; a-high = omega arith; b-high = omega arith }, (s .still .most, s .still .most, s .still .most)))
 
--- src/lib.rt:87:31
 enum-known-i : tie.Need-enum-known-i
 enum-known-i c = search needs
 
--- src/lib.rt:90:9
 returns : tie.Need-returns
 returns c = uncodable _ (told-uncodable (c .before .before .before .before .before .before .winners .ensures) (c .before .i .given .1)) refl refl
 
 enum-told : tie.Need-enum-told
 enum-told c = search needs
 
--- src/lib.rt:96:63
 slice-aggregate-winners-4 : tie.Need-slice-aggregate-winners-4
 slice-aggregate-winners-4 c = search needs
 
--- src/lib.rt:96:72
 slice-aggregate-winners-5 : tie.Need-slice-aggregate-winners-5
 slice-aggregate-winners-5 c = search needs
 
--- src/lib.rt:96:81
 slice-aggregate-winners-6 : tie.Need-slice-aggregate-winners-6
 slice-aggregate-winners-6 c = search needs
 
--- src/lib.rt:96:9
 winners-requires-2 : tie.Need-winners-requires-2
-winners-requires-2 c κs = let s = c .before .before .before .before .before .before .before .before .before .before .before .before .before .before .before .pre in (s, record { a-low = omega arith; a-high = omega arith; b-high = omega arith }, s .still .most, s .still .most, s .still .most)
+winners-requires-2 c κs = let s = c .before .before .before .before .before .before .before .before .before .before .before .before .before .before .before .pre in (s, (record { a-low = omega arith; a-high = omega arith; b-high = omega arith }, (s .still .most, s .still .most, s .still .most)))
 
--- src/lib.rt:95:31
 enum-known-i-2 : tie.Need-enum-known-i-2
 enum-known-i-2 c = search needs
 
--- src/lib.rt:98:9
 returns-2 : tie.Need-returns-2
 returns-2 c = uncodable _ (told-uncodable (c .before .before .before .before .before .before .winners2 .ensures) (c .before .i2 .given .1)) refl refl
 
 enum-told-2 : tie.Need-enum-told-2
 enum-told-2 c = search needs
 
--- src/lib.rt:101:33
 slice-aggregate-walk-all : tie.Need-slice-aggregate-walk-all
 slice-aggregate-walk-all c = search needs
 
--- src/lib.rt:101:42
 slice-aggregate-walk-all-2 : tie.Need-slice-aggregate-walk-all-2
 slice-aggregate-walk-all-2 c = search needs
 
--- src/lib.rt:101:51
 slice-aggregate-walk-all-3 : tie.Need-slice-aggregate-walk-all-3
 slice-aggregate-walk-all-3 c = search needs
 
--- src/lib.rt:101:60
 slice-aggregate-walk-all-4 : tie.Need-slice-aggregate-walk-all-4
 slice-aggregate-walk-all-4 c = search needs
 
--- src/lib.rt:101:65
 slice-aggregate-walk-all-5 : tie.Need-slice-aggregate-walk-all-5
 slice-aggregate-walk-all-5 c = search needs
 
--- src/lib.rt:101:70
 slice-aggregate-walk-all-6 : tie.Need-slice-aggregate-walk-all-6
 slice-aggregate-walk-all-6 c = search needs
 
--- src/lib.rt:100:20
 walk-all-requires : tie.Need-walk-all-requires
-walk-all-requires c κs = 
+walk-all-requires c κs =
     let s = c .before .before .before .before .before .before .before .before .before .before .before .before .before .before .before .before .before .before .before .before .before .before .before .before .before .before .before .before .pre in
     let w = c .before .before .before .before .before .before .before .before .before .before .before .before .before .before .before .before .before .before .before .before .before .winners in
     let v = c .before .before .before .before .before .before .before .before .before .before .before .before .winners2 in
-    let n = s .still .most in
-    (s, from-first (λ i l. block-limits (s .still .blocks i l) (s .step-limits) (s .length-limits)) (told-all (w .ensures) (c .before .before .before .before .before .before .before .before .before .before .before .before .before .before .before .before .enum-told .given .1) .0) (told-all (v .ensures) (c .before .before .before .before .before .before .before .enum-told2 .given .1) .0)
-        (omega (arith, n, w .kept .1 .1 .1 .1 .0)) (omega (arith, n, w .kept .1 .1 .1 .1 .1 .0)) (omega (arith, n, w .kept .1 .1 .1 .1 .1 .1 .0)) (omega (arith, n, v .kept .1 .1 .1 .1 .0)) (omega (arith, n, v .kept .1 .1 .1 .1 .1 .0)) (omega (arith, n, v .kept .1 .1 .1 .1 .1 .1 .0)))
+    let n = s .still .most in (
+      s,
+      from-first (λ i l. block-limits (s .still .blocks i l) (s .step-limits) (s .length-limits)) (told-all (w .ensures) (c .before .before .before .before .before .before .before .before .before .before .before .before .before .before .before .before .enum-told .given .1) .0) (told-all (v .ensures) (c .before .before .before .before .before .before .before .enum-told2 .given .1) .0)
+          (omega (arith, n, w .kept .1 .1 .1 .1 .0)) (omega (arith, n, w .kept .1 .1 .1 .1 .1 .0)) (omega (arith, n, w .kept .1 .1 .1 .1 .1 .1 .0)) (omega (arith, n, v .kept .1 .1 .1 .1 .0)) (omega (arith, n, v .kept .1 .1 .1 .1 .1 .0)) (omega (arith, n, v .kept .1 .1 .1 .1 .1 .1 .0)),
+    )
 
--- src/lib.rt:80:1
 same-length : tie.Need-same-length
 same-length c = search needs
 
--- src/lib.rt:80:1
 returns-3 : tie.Need-returns-3
 returns-3 c = corners _ (all-codable (told-all (c .before .before .before .before .before .before .before .before .before .before .before .before .before .before .before .before .before .before .before .before .before .before .before .before .before .before .before .winners .ensures) (c .before .before .before .before .before .before .before .before .before .before .before .before .before .before .before .before .before .before .before .before .before .before .enum-told .given .1) .0)) (c .before .before .before .before .before .walk-all .ensures) refl
 

@@ -1,3 +1,5 @@
+-- `list_job::list` meets its contract: the corners of what no check refuses are listed, and what one refuses is left.
+-- Assumes nothing.
 use mathlib.Core.Path.{_≡_, refl, sym, ap, _∙_}
 use lib.ListN.{length}
 use Rattle.answers.specs.Said.{fine, saidCheck}
@@ -7,24 +9,16 @@ use Rattle.list_job.specs.ListJob.{refuses, answers}
 use borrow.Author.Needs.{needs}
 use Rattle.list_job.proofs.list.Statement.{statement}
 use Rattle.list_job.proofs.list.Tie as tie
-use Rattle.list_job.proofs.list.Reads as reads
-use Rattle.list_job.proofs.list.Lts as lts
-use Rattle.list_job.proofs.list_still.Reads as list-still-reads
-use Rattle.still.proofs.check_list.Reads as check-list-reads
 
--- src/lib.rt:130:11
 check-list-requires : tie.Need-check-list-requires
 check-list-requires c κs = search needs
 
--- src/lib.rt:131:26
 enum-known-r : tie.Need-enum-known-r
 enum-known-r c = search needs
 
--- src/lib.rt:132:61
 enum-told : tie.Need-enum-told
 enum-told c = search needs
 
--- src/lib.rt:132:26
 -- what no refusal leaves
 fine-told : (c : tie.After-enum-told)
     → listVerdict (c .before .before .before .before .before .before .args .levels .now) (c .before .before .before .before .before .before .args .steps .now) (c .before .before .before .before .before .before .args .lengths .now) (length (c .before .before .before .before .before .before .args .list .now)) ≡ fine
@@ -33,15 +27,12 @@ fine-told c = sym (c .before .before .check-list .ensures) ∙ ap saidCheck (c .
 list-still-requires : tie.Need-list-still-requires
 list-still-requires c κs = list-verdict-fine _ _ _ _ (fine-told (c .before)) .0
 
--- src/lib.rt:127:1
 returns : tie.Need-returns
 returns c = refuses _ _ _ (sym (c .before .before .before .check-list .ensures) ∙ ap saidCheck (c .before .r .given .1)) refl refl
 
--- src/lib.rt:127:1
 same-length : tie.Need-same-length
 same-length c = search needs
 
--- src/lib.rt:127:1
 returns-2 : tie.Need-returns-2
 returns-2 c = answers (fine-told (c .before .before .before .before)) (c .before .before .list-still .ensures)
 

@@ -1,165 +1,137 @@
-use mathlib.Core.Path.{refl}
+-- `list_job::walk_all` meets its contract: the blocks set out from their first corners, and the walk begins there.
+-- Assumes nothing.
+use mathlib.Core.Path.{refl, sym}
 use native.Mathlib.Omega.{arith}
 use borrow.Author.Needs.{needs}
 use Rattle.list_job.proofs.walk_all.Statement.{statement}
 use Rattle.list_job.proofs.walk_all.Tie as tie
-use Rattle.list_job.proofs.walk_all.Reads as reads
-use Rattle.list_job.proofs.walk_all.Lts as lts
-use Rattle.merge.proofs.set_out.Reads as set-out-reads
-use Rattle.search.proofs.bit_table.Reads as bit-table-reads
-use Rattle.walk.proofs.list_corners.Reads as list-corners-reads
 
--- src/lib.rt:55:43
 slice-aggregate-bit-table : tie.Need-slice-aggregate-bit-table
 slice-aggregate-bit-table c = search needs
 
--- src/lib.rt:55:9
 bit-table-requires : tie.Need-bit-table-requires
 bit-table-requires c κs = search needs
 
--- src/lib.rt:69:39
 slice-aggregate-set-out : tie.Need-slice-aggregate-set-out
 slice-aggregate-set-out c = search needs
 
--- src/lib.rt:69:47
 slice-aggregate-set-out-2 : tie.Need-slice-aggregate-set-out-2
 slice-aggregate-set-out-2 c = search needs
 
--- src/lib.rt:69:59
 slice-aggregate-set-out-3 : tie.Need-slice-aggregate-set-out-3
 slice-aggregate-set-out-3 c = search needs
 
--- src/lib.rt:69:70
 slice-aggregate-set-out-4 : tie.Need-slice-aggregate-set-out-4
 slice-aggregate-set-out-4 c = search needs
 
--- src/lib.rt:69:81
 slice-aggregate-set-out-5 : tie.Need-slice-aggregate-set-out-5
 slice-aggregate-set-out-5 c = search needs
 
--- src/lib.rt:69:92
 slice-aggregate-set-out-6 : tie.Need-slice-aggregate-set-out-6
 slice-aggregate-set-out-6 c = search needs
 
--- src/lib.rt:70:9
 slice-aggregate-set-out-7 : tie.Need-slice-aggregate-set-out-7
 slice-aggregate-set-out-7 c = search needs
 
--- src/lib.rt:70:50
 slice-aggregate-set-out-8 : tie.Need-slice-aggregate-set-out-8
 slice-aggregate-set-out-8 c = search needs
 
--- src/lib.rt:70:60
 slice-aggregate-set-out-9 : tie.Need-slice-aggregate-set-out-9
 slice-aggregate-set-out-9 c = search needs
 
--- src/lib.rt:70:71
 slice-aggregate-set-out-10 : tie.Need-slice-aggregate-set-out-10
 slice-aggregate-set-out-10 c = search needs
 
--- src/lib.rt:70:84
 slice-aggregate-set-out-11 : tie.Need-slice-aggregate-set-out-11
 slice-aggregate-set-out-11 c = search needs
 
--- src/lib.rt:71:9
 slice-aggregate-set-out-12 : tie.Need-slice-aggregate-set-out-12
 slice-aggregate-set-out-12 c = search needs
 
--- src/lib.rt:68:9
 set-out-requires : tie.Need-set-out-requires
-set-out-requires c κs = 
+set-out-requires c κs =
     let p = c .before .before .before .before .before .before .before .before .before .before .before .before .before .before .before .before .before .before .before .before .before .before .before .before .before .before .before .pre in
-    let n = p .0 .still .most in
-    ( record { sound = p .0; made = c .before .before .before .before .before .before .before .before .before .before .before .before .before .before .before .before .bit-table .ensures; low-most = omega arith }
-    , p .1 .ends
-    , record {
-        run-long = n;
-        fall-long = n;
-        height-long = n;
-        far-long = omega (arith, n);
-        gathered = record { first = refl; second = refl; third = refl };
-        searched = record { first = refl; second = refl; third = refl };
-      }
-    , omega (arith, n)
+    let n = p .0 .still .most in (
+      record { sound = p .0; made = c .before .before .before .before .before .before .before .before .before .before .before .before .before .before .before .before .bit-table .ensures; low-most = omega arith },
+      (
+        p .1 .ends,
+        (
+          record {
+            run-long = n;
+            fall-long = n;
+            height-long = n;
+            far-long = omega (arith, n);
+            gathered = record { first = refl; second = refl; third = refl };
+            searched = record { first = refl; second = refl; third = refl };
+          },
+          omega (arith, n),
+        ),
+      ),
     )
 
--- src/lib.rt:74:39
 slice-aggregate-list-corners : tie.Need-slice-aggregate-list-corners
-slice-aggregate-list-corners c = c .before .before .before .before .before .before .before .before .before .before .before .before .before .before .before .before .before .before .before .before .before .before .before .before .before .before .before .before .before .bit-table .kept .1 .0
+slice-aggregate-list-corners c = sym (c .before .before .before .before .before .before .before .before .before .before .before .before .before .before .before .before .before .before .before .before .before .before .before .before .before .before .before .before .before .bit-table .kept .1 .0)
 
--- src/lib.rt:74:47
 slice-aggregate-list-corners-2 : tie.Need-slice-aggregate-list-corners-2
 slice-aggregate-list-corners-2 c = search needs
 
--- src/lib.rt:74:59
 slice-aggregate-list-corners-3 : tie.Need-slice-aggregate-list-corners-3
 slice-aggregate-list-corners-3 c = search needs
 
--- src/lib.rt:74:70
 slice-aggregate-list-corners-4 : tie.Need-slice-aggregate-list-corners-4
 slice-aggregate-list-corners-4 c = search needs
 
--- src/lib.rt:74:81
 slice-aggregate-list-corners-5 : tie.Need-slice-aggregate-list-corners-5
 slice-aggregate-list-corners-5 c = search needs
 
--- src/lib.rt:74:92
 slice-aggregate-list-corners-6 : tie.Need-slice-aggregate-list-corners-6
 slice-aggregate-list-corners-6 c = search needs
 
--- src/lib.rt:75:9
 slice-aggregate-list-corners-7 : tie.Need-slice-aggregate-list-corners-7
 slice-aggregate-list-corners-7 c = search needs
 
--- src/lib.rt:75:35
 slice-aggregate-list-corners-8 : tie.Need-slice-aggregate-list-corners-8
 slice-aggregate-list-corners-8 c = search needs
 
--- src/lib.rt:75:45
 slice-aggregate-list-corners-9 : tie.Need-slice-aggregate-list-corners-9
 slice-aggregate-list-corners-9 c = search needs
 
--- src/lib.rt:75:56
 slice-aggregate-list-corners-10 : tie.Need-slice-aggregate-list-corners-10
 slice-aggregate-list-corners-10 c = search needs
 
--- src/lib.rt:75:69
 slice-aggregate-list-corners-11 : tie.Need-slice-aggregate-list-corners-11
 slice-aggregate-list-corners-11 c = search needs
 
--- src/lib.rt:75:79
 slice-aggregate-list-corners-12 : tie.Need-slice-aggregate-list-corners-12
 slice-aggregate-list-corners-12 c = search needs
 
--- src/lib.rt:73:5
 list-corners-requires : tie.Need-list-corners-requires
-list-corners-requires c κs = 
+list-corners-requires c κs =
     let p = c .before .before .before .before .before .before .before .before .before .before .before .before .before .before .before .before .before .before .before .before .before .before .before .before .before .before .before .before .before .before .before .before .before .before .before .before .before .before .before .before .before .before .before .before .before .before .before .before .before .before .before .before .before .before .before .pre in
     let s = c .before .before .before .before .before .before .before .before .before .before .before .before .before .before .before .before .before .before .before .before .before .before .before .before .before .before .before .set-out in
-    let o = s .ensures .0 in
-    ( record { sound = p .0; made = c .before .before .before .before .before .before .before .before .before .before .before .before .before .before .before .before .before .before .before .before .before .before .before .before .before .before .before .before .before .before .before .before .before .before .before .before .before .before .before .before .before .before .before .before .bit-table .ensures; low-most = omega arith }
-    , record { first = s .kept .1 .1 .1 .1 .1 .0; second = s .kept .1 .1 .1 .1 .1 .1 .0; third = s .kept .1 .1 .1 .1 .1 .1 .1 .0 }
-    , record { first = s .kept .1 .1 .1 .1 .1 .1 .1 .1 .0; second = s .kept .1 .1 .1 .1 .1 .1 .1 .1 .1 .0; third = s .kept .1 .1 .1 .1 .1 .1 .1 .1 .1 .1 .0 }
-    , record { a = o .a; b = o .b; standing = o .standing; sums = s .ensures .1; least = p .1 .least }
+    let o = s .ensures .0 in (
+      record { sound = p .0; made = c .before .before .before .before .before .before .before .before .before .before .before .before .before .before .before .before .before .before .before .before .before .before .before .before .before .before .before .before .before .before .before .before .before .before .before .before .before .before .before .before .before .before .before .before .bit-table .ensures; low-most = omega arith },
+      (
+        record { first = s .kept .1 .1 .1 .1 .1 .0; second = s .kept .1 .1 .1 .1 .1 .1 .0; third = s .kept .1 .1 .1 .1 .1 .1 .1 .0 },
+        (
+          record { first = s .kept .1 .1 .1 .1 .1 .1 .1 .1 .0; second = s .kept .1 .1 .1 .1 .1 .1 .1 .1 .1 .0; third = s .kept .1 .1 .1 .1 .1 .1 .1 .1 .1 .1 .0 },
+          record { a = o .a; b = o .b; standing = o .standing; sums = s .ensures .1; least = p .1 .least },
+        ),
+      ),
     )
 
--- src/lib.rt:38:1
 same-length : tie.Need-same-length
 same-length c = c .before .before .before .before .before .before .before .before .before .before .before .before .before .before .before .before .before .before .before .list-corners .kept .1 .1 .1 .1 .1 .1 .1 .1 .1 .1 .1 .1 .0
 
--- src/lib.rt:38:1
 same-length-2 : tie.Need-same-length-2
 same-length-2 c = c .before .before .before .before .before .before .before .before .before .before .before .before .before .before .before .before .before .before .before .list-corners .kept .1 .1 .1 .1 .1 .1 .1 .1 .1 .1 .1 .1 .1 .0
 
--- src/lib.rt:38:1
 same-length-3 : tie.Need-same-length-3
 same-length-3 c = c .before .before .before .before .before .before .before .before .before .before .before .before .before .before .before .before .before .before .before .list-corners .kept .1 .1 .1 .1 .1 .1 .1 .1 .1 .1 .1 .1 .1 .1 .0
 
--- src/lib.rt:38:1
 same-length-4 : tie.Need-same-length-4
 same-length-4 c = search needs
 
--- src/lib.rt:38:1
 returns : tie.Need-returns
 returns c = search needs
 

@@ -171,10 +171,9 @@ move-block-requires c κs =
     let T = c .before .before .before .before .before .before .before .before .before .before .before .before .before .before .before .before .before .before .loop .inv .1 in
     let p = c .before .before .before .before .before .before .before .before .before .before .before .before .before .before .before .before .before .before .before .before .before .before .before .before .before .before .before .before .before .before .before .before .before .before .before .before .pre in
     let k = steepest-at (T .tournament) (c .before .before .before .before .before .before .before .before .before .before .before .before .before .before .before .before .top .ensures) in
-    let par = c .before .before .before .before .before .before .before .before .before .before .before .before .before .if1 .left in
-    (
+    let par = c .before .before .before .before .before .before .before .before .before .before .before .before .before .if1 .left in (
       one-block (p .0) (k .within),
-      (T .gathered, (T .searched, may-move P (task-limits (p .0)) (k .within) par (p .0 .sound .still .most)))
+      (T .gathered, (T .searched, may-move P (task-limits (p .0)) (k .within) par (p .0 .sound .still .most))),
     )
 
 -- src/lib.rt:219:9
@@ -214,8 +213,7 @@ loop-again c =
     let k = steepest-at (T .tournament) (c .before .before .before .before .before .before .before .before .before .before .before .before .before .before .before .before .before .before .before .before .before .before .before .before .before .before .before .before .before .before .before .before .before .before .before .before .before .before .before .before .before .before .before .before .before .before .before .before .before .top .ensures) in
     let limits = task-limits (p .0) in
     let par = c .before .before .before .before .before .before .before .before .before .before .before .before .before .before .before .before .before .before .before .before .before .before .before .before .before .before .before .before .before .before .before .before .before .before .before .before .before .before .before .before .before .before .before .before .before .before .if1 .left in
-    let M = c .before .before .before .before .before .before .before .before .before .before .before .before .before .before .before .before .before .before .before .before .before .before .before .before .before .before .before .before .before .before .before .before .move-block .ensures in
-    (
+    let M = c .before .before .before .before .before .before .before .before .before .before .before .before .before .before .before .before .before .before .before .before .before .before .before .before .before .before .before .before .before .before .before .before .move-block .ensures in (
       passed-on P limits (k .within) par M,
       record {
         tournament = c .before .before .mend .ensures;

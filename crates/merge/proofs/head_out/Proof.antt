@@ -28,8 +28,7 @@ loop-holds c = heading-start (c .before .before .before .before .before .before 
 aim-requires : tie.Need-aim-requires Inv-loop μ-loop
 aim-requires c κs =
     let p = c .before .before .before .before .before .before .before .before .before .before .before .before .before .before .before .before .before .before .before .before .before .pre in
-    let e = p .1 .0 .ends in
-    (
+    let e = p .1 .0 .ends in (
       omega (arith, p .0 .sound .still .most),
       omega (arith, e .bits-long),
       omega (arith, e .goal-bits-long),
@@ -60,8 +59,7 @@ set-way-requires c κs =
     let p = c .before .before .before .before .before .before .before .before .before .before .before .before .before .before .before .before .before .before .before .before .before .before .before .before .before .before .before .before .before .before .before .before .before .before .before .before .pre in
     let s = c .before .before .before .before .before .before .before .before .before .before .before .before .before .before .before .before .before .loop .inv .setting in
     let l = c .before .before .before .before .before .before .before .before .before .before .before .before .before .before .before .before .loop-test .taken in
-    let a = c .before .before .before .before .before .before .before .before .before .before .before .before .before .before .aim .ensures in
-    (
+    let a = c .before .before .before .before .before .before .before .before .before .before .before .before .before .before .aim .ensures in (
       one-block (p .0) l,
       (
         s .gathered,
@@ -69,10 +67,10 @@ set-way-requires c κs =
           s .searched,
           (
             (omega (arith, s .run-long), omega (arith, s .fall-long), omega (arith, s .height-long), omega (arith, s .far-long, a .long)),
-            sees-goal (p .1 .0 .ends) l a (omega (arith, s .far-long))
-          )
-        )
-      )
+            sees-goal (p .1 .0 .ends) l a (omega (arith, s .far-long)),
+          ),
+        ),
+      ),
     )
 
 -- src/lib.rt:161:9

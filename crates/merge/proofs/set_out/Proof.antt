@@ -20,11 +20,10 @@ head-out-requires c κs =
 build-requires : tie.Need-build-requires
 build-requires c κs =
     let p = c .before .before .before .before .before .before .before .before .before .before .before .before .before .before .before .before .before .before .before .before .before .before .before .before .before .before .before .before .before .before .before .before .before .before .before .before .before .before .before .before .before .before .before .before .before .before .before .before .before .before .before .before .before .before .pre in
-    let s = p .1 .1 .0 in
-    (
+    let s = p .1 .1 .0 in (
       headed-slopes (p .1 .0) (task-limits (p .0)) (c .before .before .before .before .before .before .before .before .before .before .before .before .before .before .before .before .before .before .before .before .before .before .before .head-out .ensures) (p .0 .sound .still .least) (p .0 .low-most)
           (omega (arith, s .run-long, c .before .before .before .before .before .before .before .before .before .before .run .given)) (omega (arith, s .fall-long, c .before .before .before .before .before .before .before .before .fall .given)),
-      p .1 .1 .1
+      p .1 .1 .1,
     )
 
 -- src/lib.rt:234:5
@@ -82,8 +81,7 @@ returns : tie.Need-returns
 returns c =
     let p = c .before .before .before .before .before .before .before .before .before .before .before .before .before .before .before .before .before .before .before .before .before .before .before .before .before .before .before .before .before .before .before .before .before .before .before .before .before .before .before .before .before .before .before .before .before .before .before .before .before .before .before .before .before .before .before .before .before .before .pre in
     let e = p .1 .0 in
-    let s = p .1 .1 .0 in
-    (
+    let s = p .1 .1 .0 in (
       set-out e (task-limits (p .0)) (c .before .before .before .before .before .before .before .before .before .before .before .before .before .before .before .before .before .before .before .before .before .before .before .before .before .before .before .head-out .ensures) (c .before .before .before .build .ensures) (record {
         cb = e .bits-long;
         ce = e .error-long;
@@ -93,7 +91,7 @@ returns c =
         height = omega (arith, s .height-long, c .before .before .before .before .before .before .before .before .before .before .height .given);
         far = omega (arith, s .far-long, c .before .before .before .before .before .before .before .before .far .given);
       }),
-      c .together .ensures
+      c .together .ensures,
     )
 
 pub set-out-spec : {M : Type 1} → statement M
