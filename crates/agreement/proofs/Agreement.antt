@@ -32,11 +32,11 @@ pub record Place (out : List ℕ) (m : ℕ) (P : Pair) : Type 0 where
 
 member-place : (out : List ℕ) (m : ℕ) (P : Pair) → List·Memᴰ P (entries out m) → Place out m P
 member-place out zero P h = absurd (List·Memᴰ·not-nil h)
-member-place out (suc m) P h = go (List·Memᴰ·append-cases (entries out m) h)
+member-place out (suc m) P h = go (List·Memᴰ·append-cases (entries out m) h) (member-place out m P)
   where
-    go : List·Memᴰ P (entries out m) ⊎ List·Memᴰ P (entry out m ∷ []) → Place out (suc m) P
-    go (inl p) = let q = member-place out m P p in record { at = q .at; inside = omega (arith, q .inside); is = q .is }
-    go (inr p) = record { at = m; inside = omega arith; is = sym (List·Memᴰ·eq-of-singleton p) }
+    go : List·Memᴰ P (entries out m) ⊎ List·Memᴰ P (entry out m ∷ []) → (List·Memᴰ P (entries out m) → Place out m P) → Place out (suc m) P
+    go (inl p) r = let q = r p in record { at = q .at; inside = omega (arith, q .inside); is = q .is }
+    go (inr p) r = record { at = m; inside = omega arith; is = sym (List·Memᴰ·eq-of-singleton p) }
 
 module _ {B : ℕ → Block} {n a b : ℕ} {P : Pair} {keep : List ℕ} (d : Decided B n a b P keep) where
   wins : Wins (Attains (λ i. Attained (B i)) n) a b P
