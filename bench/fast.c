@@ -1,0 +1,676 @@
+/* The four jobs without proofs, as fast as we can write them. What pays, in the order of its worth:
+   - levels that are not 0 are gathered from a mask, and the bits of every size and run are tabulated once a still;
+   - one number, (a x error + b x bits) x 2048 + bits, orders choices by cost and then bits; where it doesn't fit 64 bits,
+     cost and bits are compared one after the other;
+   - a kept position that a later one beats whatever follows is forgotten, so that most searches are short;
+   - both ends of a block's corners are written down without a search, and the slopes of edges are whole numbers that
+     are sorted by their digits;
+   - a budget is narrowed down by prices at which the chords of the blocks would meet it, and blocks that choose alike
+     at both ends are left out. */
+#include "fast.h"
+
+#include <stdlib.h>
+#include <string.h>
+#if defined __ARM_NEON
+#include <arm_neon.h>
+#elif defined __SSE2__
+#include <emmintrin.h>
+#endif
+
+enum {
+    SIZES = 11,
+    ROW = 64,        /* runs in a row of the table of bits */
+    NO_CODE = 4095,  /* the mark of a missing code in it */
+    SCALE = 2048,    /* above the bits of any block */
+    MOST_BITS = 1638 /* of a block */
+};
+
+#define FAR (UINT64_C(1) << 62)      /* above every cost and every key */
+#define KEYS_FIT (UINT64_C(1) << 51) /* costs below it make keys below FAR */
+
+static const Answer accepted = {0, 0, 0, 0};
+
+static Answer refused(uint64_t number, uint64_t first, uint64_t second)
+{
+    return (Answer){number, first, second, 0};
+}
+
+/* ---- The levels of a block. ---- */
+
+/* Bit k is set where level k is not 0; DC's bit is not. */
+static inline uint64_t nonzero(const int16_t *levels)
+{
+    uint64_t mask = 0;
+#if defined __ARM_NEON
+    const uint8x16_t weights = {1, 2, 4, 8, 16, 32, 64, 128, 1, 2, 4, 8, 16, 32, 64, 128};
+    uint8x16_t part[4];
+    for (unsigned i = 0; i < 4; i++) {
+        int16x8_t low = vld1q_s16(levels + 16 * i), high = vld1q_s16(levels + 16 * i + 8);
+        uint8x16_t set = vuzp1q_u8(vreinterpretq_u8_u16(vtstq_s16(low, low)), vreinterpretq_u8_u16(vtstq_s16(high, high)));
+        part[i] = vandq_u8(set, weights);
+    }
+    uint8x16_t sum = vpaddq_u8(vpaddq_u8(part[0], part[1]), vpaddq_u8(part[2], part[3]));
+    mask = vgetq_lane_u64(vreinterpretq_u64_u8(vpaddq_u8(sum, sum)), 0);
+#elif defined __SSE2__
+    const __m128i zero = _mm_setzero_si128();
+    for (unsigned i = 0; i < 4; i++) {
+        __m128i low = _mm_cmpeq_epi16(_mm_loadu_si128((const __m128i *)(levels + 16 * i)), zero);
+        __m128i high = _mm_cmpeq_epi16(_mm_loadu_si128((const __m128i *)(levels + 16 * i + 8)), zero);
+        mask |= (uint64_t)(~_mm_movemask_epi8(_mm_packs_epi16(low, high)) & 0xffff) << 16 * i;
+    }
+#else
+    for (unsigned k = 0; k < POSITIONS; k++)
+        mask |= (uint64_t)(levels[k] != 0) << k;
+#endif
+    return mask & ~UINT64_C(1);
+}
+
+typedef struct {
+    uint64_t drop; /* the error of dropping it */
+    uint16_t row;  /* where the table of bits has it after a run from DC; after a run from place p, p before that */
+    uint8_t place, size;
+} Level;
+
+typedef struct {
+    const Level *levels;
+    unsigned count;
+    uint64_t error; /* of dropping them all */
+} Gathered;
+
+static inline Gathered gather(const int16_t *levels, const uint8_t *steps, Level *room)
+{
+    Gathered gathered = {room, 0, 0};
+    for (uint64_t mask = nonzero(levels); mask != 0; mask &= mask - 1) {
+        unsigned place = (unsigned)__builtin_ctzll(mask), level = (unsigned)abs(levels[place]);
+        unsigned size = 32 - (unsigned)__builtin_clz(level);
+        uint64_t product = (uint64_t)level * steps[place];
+        room[gathered.count++] = (Level){product * product, (uint16_t)(ROW * size + place - 1), (uint8_t)place, (uint8_t)size};
+        gathered.error += product * product;
+    }
+    return gathered;
+}
+
+/* ---- The table of bits. ---- */
+
+typedef struct {
+    uint16_t bits[SIZES * ROW]; /* of a level of a size after a run */
+    uint16_t end;               /* of the end of block */
+    bool full;                  /* no code is missing */
+    unsigned gain;              /* bits that a longer run saves at most, where no code is missing */
+} Table;
+
+static void tabulate(const uint8_t *lengths, Table *table)
+{
+    unsigned zeros = lengths[SIXTEEN_ZEROS];
+    table->end = lengths[END_OF_BLOCK] ? lengths[END_OF_BLOCK] : NO_CODE;
+    table->full = zeros != 0 && lengths[END_OF_BLOCK] != 0;
+    table->gain = 0;
+    for (unsigned size = 1; size < SIZES; size++) {
+        unsigned least = NO_CODE;
+        for (unsigned run = LAST; run-- > 0;) {
+            unsigned code = lengths[run % 16 * 16 + size], bits = run / 16 * zeros + code + size;
+            bool missing = code == 0 || (run >= 16 && zeros == 0);
+            table->full &= !missing;
+            table->bits[ROW * size + run] = (uint16_t)(missing ? NO_CODE : bits);
+            least = bits < least ? bits : least;
+            table->gain = bits - least > table->gain ? bits - least : table->gain;
+        }
+    }
+}
+
+/* ---- The best choice of a block. ---- */
+
+/* The best choices that end at some kept place, in rising place; 0 is DC's. */
+typedef struct {
+    uint64_t key, keep;
+    unsigned place;
+} Node;
+
+/* By keys. A choice's key less that of another one is b times the bits between them, the scaled error taken off. */
+static inline bool search_keys(const Table *table, Gathered block, uint64_t a, uint64_t b, bool full, Choice *best)
+{
+    Node nodes[POSITIONS];
+    uint64_t scaled_a = a * SCALE, scaled_b = b * SCALE + 1, end = table->end == NO_CODE ? FAR : scaled_b * table->end;
+    uint64_t slack = scaled_b * table->gain;
+    unsigned count = 1;
+    nodes[0] = (Node){scaled_a * block.error, 0, 0};
+    uint64_t least = nodes[0].key + end, keep = 0;
+    for (unsigned i = 0; i < block.count; i++) {
+        Level level = block.levels[i];
+        const uint16_t *row = table->bits + level.row;
+        uint64_t found = FAR;
+        unsigned at = 0;
+        for (unsigned j = 0; j < count; j++) {
+            unsigned bits = row[-(ptrdiff_t)nodes[j].place];
+            uint64_t key = !full && bits == NO_CODE ? FAR : nodes[j].key + scaled_b * bits;
+            at = key < found ? j : at;
+            found = key < found ? key : found;
+        }
+        if (!full && found == FAR)
+            continue;
+        Node node = {found - scaled_a * level.drop, nodes[at].keep | UINT64_C(1) << level.place, level.place};
+        uint64_t whole = node.key + (level.place == LAST ? 0 : end);
+        keep = whole < least ? node.keep : keep;
+        least = whole < least ? whole : least;
+        if (full)
+            while (count > 0 && nodes[count - 1].key > node.key + slack)
+                count--;
+        nodes[count++] = node;
+    }
+    uint64_t bits = least % SCALE;
+    *best = (Choice){{bits, (least / SCALE - b * bits) / a}, keep};
+    return least < FAR;
+}
+
+/* By cost and bits, where keys don't fit. */
+static bool search_wide(const Table *table, Gathered block, uint64_t a, uint64_t b, Choice *best)
+{
+    struct {
+        uint64_t cost, bits, keep;
+        unsigned place;
+    } nodes[POSITIONS];
+    unsigned count = 1;
+    nodes[0].cost = a * block.error;
+    nodes[0].bits = nodes[0].keep = nodes[0].place = 0;
+    for (unsigned i = 0; i < block.count; i++) {
+        Level level = block.levels[i];
+        const uint16_t *row = table->bits + level.row;
+        uint64_t cost = FAR, bits = 0;
+        unsigned at = 0;
+        for (unsigned j = 0; j < count; j++) {
+            unsigned more = row[-(ptrdiff_t)nodes[j].place];
+            uint64_t reached = more == NO_CODE ? FAR : nodes[j].cost + b * more, sum = nodes[j].bits + more;
+            bool first = reached < cost || (reached == cost && sum < bits);
+            at = first ? j : at;
+            bits = first ? sum : bits;
+            cost = first ? reached : cost;
+        }
+        if (cost == FAR)
+            continue;
+        nodes[count].cost = cost - a * level.drop;
+        nodes[count].bits = bits;
+        nodes[count].keep = nodes[at].keep | UINT64_C(1) << level.place;
+        nodes[count++].place = level.place;
+    }
+    uint64_t cost = FAR;
+    for (unsigned j = 0; j < count; j++) {
+        unsigned more = nodes[j].place == LAST ? 0 : table->end;
+        uint64_t reached = more == NO_CODE ? FAR : nodes[j].cost + b * more, sum = nodes[j].bits + more;
+        if (reached < cost || (reached == cost && cost < FAR && sum < best->pair.bits)) {
+            cost = reached;
+            *best = (Choice){{sum, (cost - b * sum) / a}, nodes[j].keep};
+        }
+    }
+    return cost < FAR;
+}
+
+/* False: no choice is codable. Beyond a x error one bit more is dearer than all error, so b changes nothing there. */
+static inline bool search(const Table *table, Gathered block, uint64_t a, uint64_t b, Choice *best)
+{
+    uint64_t all = a * block.error;
+    b = b <= all ? b : all + 1;
+    if (all + b * MOST_BITS >= KEYS_FIT)
+        return search_wide(table, block, a, b, best);
+    return table->full ? search_keys(table, block, a, b, true, best) : search_keys(table, block, a, b, false, best);
+}
+
+/* ---- The checks, in the order of their numbers. ---- */
+
+static bool in_range(const int16_t *levels)
+{
+    unsigned outside = 0;
+    for (unsigned k = 0; k < POSITIONS; k++)
+        outside |= (uint16_t)(levels[k] + GREATEST_LEVEL) > 2 * GREATEST_LEVEL;
+    return outside == 0;
+}
+
+/* DC is looked at only where the quick look over a block finds something. */
+static Answer check_levels(const int16_t *levels, size_t blocks)
+{
+    for (size_t block = 0; block < blocks; block++)
+        if (!in_range(levels + POSITIONS * block))
+            for (size_t k = 1; k < POSITIONS; k++)
+                if (abs(levels[POSITIONS * block + k]) > GREATEST_LEVEL)
+                    return refused(6, block, k);
+    return accepted;
+}
+
+static bool is_count(size_t levels_len)
+{
+    return levels_len % POSITIONS == 0 && levels_len >= POSITIONS && levels_len <= POSITIONS * MOST_BLOCKS;
+}
+
+static Answer check_tables(Still still)
+{
+    if (!is_count(still.levels_len))
+        return refused(1, still.levels_len, 0);
+    if (still.steps_len != POSITIONS)
+        return refused(2, POSITIONS, 0);
+    for (size_t k = 0; k < POSITIONS; k++)
+        if (still.steps[k] == 0)
+            return refused(2, k, 0);
+    if (still.lengths_len != LENGTHS)
+        return refused(3, LENGTHS, 0);
+    for (size_t entry = 0; entry < LENGTHS; entry++)
+        if (still.lengths[entry] > GREATEST_LENGTH)
+            return refused(3, entry, 0);
+    return accepted;
+}
+
+/* ---- The price job. ---- */
+
+static Answer check_price(Still still, uint64_t a, uint64_t b, size_t keep_len)
+{
+    Answer told = check_tables(still);
+    if (told.number != 0)
+        return told;
+    if (a < 1 || a > GREATEST_A)
+        return refused(4, 1, 0);
+    if (b > GREATEST_B)
+        return refused(4, 2, 0);
+    if (keep_len != still.levels_len / POSITIONS)
+        return refused(5, keep_len, 0);
+    return check_levels(still.levels, keep_len);
+}
+
+Answer fast_price(Still still, uint64_t a, uint64_t b, uint64_t *keep, size_t keep_len)
+{
+    Answer told = check_price(still, a, b, keep_len);
+    if (told.number != 0)
+        return told;
+    Table table;
+    Level room[POSITIONS];
+    uint64_t chosen[MOST_BLOCKS];
+    tabulate(still.lengths, &table);
+    for (size_t block = 0; block < keep_len; block++) {
+        Choice best;
+        if (!search(&table, gather(still.levels + POSITIONS * block, still.steps, room), a, b, &best))
+            return refused(7, block, 0);
+        chosen[block] = best.keep;
+        told.first += best.pair.bits;
+        told.second += best.pair.error;
+        told.third += (unsigned)__builtin_popcountll(best.keep);
+    }
+    memcpy(keep, chosen, keep_len * sizeof *keep);
+    return told;
+}
+
+/* ---- The ends of a block's corners. ---- */
+
+/* Where no code is missing, all is kept at the last corner; at the first nothing is, unless keeping place 63 is
+   cheaper than the end of block. */
+static bool first_corner(const Table *table, Gathered block, Choice *first)
+{
+    bool may_end = block.count > 0 && block.levels[block.count - 1].place == LAST;
+    if (!table->full || may_end)
+        return search(table, block, 1, block.error + 1, first);
+    *first = (Choice){{table->end, block.error}, 0};
+    return true;
+}
+
+static bool last_corner(const Table *table, Gathered block, Choice *last)
+{
+    if (!table->full)
+        return search(table, block, 1, 0, last);
+    *last = (Choice){{0, 0}, 0};
+    unsigned before = 0;
+    for (unsigned i = 0; i < block.count; i++) {
+        last->pair.bits += table->bits[block.levels[i].row - before];
+        before = block.levels[i].place;
+        last->keep |= UINT64_C(1) << before;
+    }
+    last->pair.bits += before == LAST ? 0 : table->end;
+    return true;
+}
+
+/* ---- The list job. ---- */
+
+/* The way of a block from a corner to its next: bits more, error less, coefficients more. */
+typedef struct {
+    uint64_t slope;     /* equal where fall / run is, greater where it is */
+    uint64_t fall : 43; /* together in one word */
+    uint64_t run : 11;
+    int64_t kept : 8;
+} Edge;
+
+typedef struct {
+    Edge *at;
+    size_t count, room;
+    uint64_t longest; /* run */
+} Edges;
+
+static void edges_add(Edges *edges, Choice from, Choice to)
+{
+    if (edges->count == edges->room) {
+        edges->room = edges->room ? 2 * edges->room : 4096;
+        edges->at = realloc(edges->at, edges->room * sizeof *edges->at);
+        if (edges->at == NULL)
+            abort();
+    }
+    uint64_t run = to.pair.bits - from.pair.bits;
+    edges->longest = run > edges->longest ? run : edges->longest;
+    edges->at[edges->count++] = (Edge){.fall = from.pair.error - to.pair.error,
+                                       .run = run,
+                                       .kept = __builtin_popcountll(to.keep) - __builtin_popcountll(from.keep)};
+}
+
+/* At the price that makes both ends cost the same, either nothing is cheaper, or a corner lies between. */
+static void divide(Edges *edges, const Table *table, Gathered block, Choice left, Choice last)
+{
+    Choice rights[MOST_BITS + 1];
+    size_t depth = 0;
+    rights[depth++] = last;
+    while (depth > 0) {
+        Choice right = rights[depth - 1], between;
+        uint64_t a = right.pair.bits - left.pair.bits, b = left.pair.error - right.pair.error;
+        if (a == 0)
+            return;
+        search(table, block, a, b, &between);
+        if (between.pair.bits == left.pair.bits) {
+            edges_add(edges, left, right);
+            left = right;
+            depth--;
+        } else {
+            rights[depth++] = between;
+        }
+    }
+}
+
+/* Two slopes that differ do so by 1 / longest^2 at least, so as many digits behind the point keep them apart. */
+static void measure(Edges *edges)
+{
+    unsigned digits = 0;
+    while (UINT64_C(1) << digits <= edges->longest * edges->longest)
+        digits++;
+    for (size_t i = 0; i < edges->count; i++)
+        edges->at[i].slope = (uint64_t)edges->at[i].fall << digits;
+    for (size_t i = 0; i < edges->count; i++)
+        edges->at[i].slope /= edges->at[i].run;
+}
+
+/* Steeper edges first, byte by byte from the least significant. */
+static void sort(Edges *edges)
+{
+    size_t places[8][256] = {{0}}, count = edges->count;
+    Edge *from = edges->at, *to = malloc((count + 1) * sizeof *to), *spare = to;
+    if (to == NULL)
+        abort();
+    for (size_t i = 0; i < count; i++)
+        for (unsigned byte = 0; byte < 8; byte++)
+            places[byte][~(from[i].slope >> 8 * byte) & 255]++;
+    for (unsigned byte = 0; byte < 8; byte++) {
+        size_t next = 0;
+        if (places[byte][~(count ? from[0].slope >> 8 * byte : 0) & 255] == count)
+            continue;
+        for (unsigned digit = 0; digit < 256; digit++) {
+            size_t here = places[byte][digit];
+            places[byte][digit] = next;
+            next += here;
+        }
+        for (size_t i = 0; i < count; i++)
+            to[places[byte][~(from[i].slope >> 8 * byte) & 255]++] = from[i];
+        Edge *other = from;
+        from = to;
+        to = other;
+    }
+    if (from == spare)
+        memcpy(edges->at, spare, count * sizeof *spare);
+    free(spare);
+}
+
+static Answer check_list(Still still, size_t list_len)
+{
+    Answer told = check_tables(still);
+    if (told.number != 0)
+        return told;
+    if (list_len % 3 != 0)
+        return refused(5, list_len, 0);
+    return check_levels(still.levels, still.levels_len / POSITIONS);
+}
+
+/* The corners of every block as edges; the still's first corner. */
+static Answer gather_edges(Still still, Edges *edges, Point *first)
+{
+    Table table;
+    Level room[POSITIONS];
+    tabulate(still.lengths, &table);
+    for (size_t block = 0; block < still.levels_len / POSITIONS; block++) {
+        Gathered gathered = gather(still.levels + POSITIONS * block, still.steps, room);
+        Choice left, last;
+        if (!first_corner(&table, gathered, &left) || !last_corner(&table, gathered, &last))
+            return refused(7, block, 0);
+        first->bits += left.pair.bits;
+        first->error += left.pair.error;
+        first->kept += (unsigned)__builtin_popcountll(left.keep);
+        divide(edges, &table, gathered, left, last);
+    }
+    return accepted;
+}
+
+/* Edges of one slope lead to one corner. */
+static Answer write_corners(const Edges *edges, Point here, uint64_t *list, size_t list_len)
+{
+    size_t corners = 1;
+    for (size_t i = 0; i < edges->count; i++)
+        corners += i == 0 || edges->at[i].slope != edges->at[i - 1].slope;
+    if (list_len / 3 < corners)
+        return refused(8, corners, 0);
+    for (size_t i = 0;; i++) {
+        if (i == 0 || i == edges->count || edges->at[i].slope != edges->at[i - 1].slope) {
+            *list++ = here.bits;
+            *list++ = here.error;
+            *list++ = here.kept;
+        }
+        if (i == edges->count)
+            return (Answer){0, corners, 0, 0};
+        here.bits += edges->at[i].run;
+        here.error -= edges->at[i].fall;
+        here.kept += (uint64_t)(int64_t)edges->at[i].kept;
+    }
+}
+
+Answer fast_list(Still still, uint64_t *list, size_t list_len)
+{
+    Edges edges = {.count = 0};
+    Point first = {0, 0, 0};
+    Answer told = check_list(still, list_len);
+    if (told.number == 0)
+        told = gather_edges(still, &edges, &first);
+    if (told.number == 0) {
+        measure(&edges);
+        sort(&edges);
+        told = write_corners(&edges, first, list, list_len);
+    }
+    free(edges.at);
+    return told;
+}
+
+/* ---- The budget job. ---- */
+
+/* A still between two of its corners: one with few bits, which fits, and one with many, which doesn't. */
+typedef struct {
+    Table table;
+    size_t blocks, open_count;
+    uint16_t open[MOST_BLOCKS]; /* the blocks that choose otherwise at the two corners */
+    Gathered gathered[MOST_BLOCKS];
+    Choice few[MOST_BLOCKS], many[MOST_BLOCKS], between[MOST_BLOCKS];
+    Level levels[MOST_BLOCKS * LAST];
+} Bracket;
+
+static Answer check_fit(Still still, size_t keep_len)
+{
+    Answer told = check_tables(still);
+    if (told.number != 0)
+        return told;
+    if (keep_len != still.levels_len / POSITIONS)
+        return refused(5, keep_len, 0);
+    return check_levels(still.levels, keep_len);
+}
+
+static Answer gather_ends(Still still, Bracket *bracket, uint64_t *few_bits, uint64_t *many_bits)
+{
+    Level *room = bracket->levels;
+    tabulate(still.lengths, &bracket->table);
+    for (size_t block = 0; block < bracket->blocks; block++) {
+        Gathered gathered = gather(still.levels + POSITIONS * block, still.steps, room);
+        room += gathered.count;
+        bracket->gathered[block] = gathered;
+        if (!first_corner(&bracket->table, gathered, bracket->few + block) ||
+            !last_corner(&bracket->table, gathered, bracket->many + block))
+            return refused(7, block, 0);
+        *few_bits += bracket->few[block].pair.bits;
+        *many_bits += bracket->many[block].pair.bits;
+    }
+    return accepted;
+}
+
+/* The line between a block's two corners. */
+typedef struct {
+    uint64_t slope;
+    uint32_t run, block;
+} Chord;
+
+/* Steeper chords are taken first: the first one that goes beyond the budget. */
+static Chord crossing(Chord *chords, size_t count, uint64_t room)
+{
+    for (;;) {
+        uint64_t pivot = chords[count / 2].slope, steeper = 0;
+        size_t low = 0, high = count, i = 0;
+        while (i < high) {
+            Chord chord = chords[i];
+            if (chord.slope > pivot) {
+                steeper += chord.run;
+                chords[i++] = chords[low];
+                chords[low++] = chord;
+            } else if (chord.slope == pivot) {
+                i++;
+            } else {
+                chords[i] = chords[--high];
+                chords[high] = chord;
+            }
+        }
+        if (steeper > room) {
+            count = low;
+            continue;
+        }
+        room -= steeper;
+        for (i = low; i < high; i++) {
+            if (chords[i].run > room)
+                return chords[i];
+            room -= chords[i].run;
+        }
+        chords += high;
+        count -= high;
+    }
+}
+
+static Chord next_price(const Bracket *bracket, uint64_t room)
+{
+    Chord chords[MOST_BLOCKS];
+    for (size_t i = 0; i < bracket->open_count; i++) {
+        size_t block = bracket->open[i];
+        Pair few = bracket->few[block].pair, many = bracket->many[block].pair;
+        uint64_t run = many.bits - few.bits;
+        chords[i] = (Chord){((few.error - many.error) << 22) / run, (uint32_t)run, (uint32_t)block};
+    }
+    return crossing(chords, bracket->open_count, room);
+}
+
+static void leave_out_alike(Bracket *bracket)
+{
+    size_t count = 0;
+    for (size_t i = 0; i < bracket->open_count; i++) {
+        uint16_t block = bracket->open[i];
+        bracket->open[count] = block;
+        count += bracket->few[block].pair.bits != bracket->many[block].pair.bits;
+    }
+    bracket->open_count = count;
+}
+
+/* Searches at the price of the chord that meets the budget. If that is where the corner with few bits stands, the
+   chords of that slope are edges, and together they go beyond the budget. */
+static void narrow(Bracket *bracket, uint64_t few_bits, uint64_t budget)
+{
+    for (;;) {
+        leave_out_alike(bracket);
+        Chord chord = next_price(bracket, budget - few_bits);
+        uint64_t a = chord.run, b = bracket->few[chord.block].pair.error - bracket->many[chord.block].pair.error;
+        uint64_t bits = few_bits;
+        for (size_t i = 0; i < bracket->open_count; i++) {
+            size_t block = bracket->open[i];
+            search(&bracket->table, bracket->gathered[block], a, b, bracket->between + block);
+            bits += bracket->between[block].pair.bits - bracket->few[block].pair.bits;
+        }
+        if (bits == few_bits)
+            return;
+        Choice *end = bits <= budget ? bracket->few : bracket->many;
+        for (size_t i = 0; i < bracket->open_count; i++)
+            end[bracket->open[i]] = bracket->between[bracket->open[i]];
+        few_bits = bits <= budget ? bits : few_bits;
+    }
+}
+
+Answer fast_fit(Still still, uint32_t budget, uint64_t *keep, size_t keep_len)
+{
+    static _Thread_local Bracket bracket;
+    uint64_t few_bits = 0, many_bits = 0;
+    Answer told = check_fit(still, keep_len);
+    bracket.blocks = keep_len;
+    if (told.number == 0)
+        told = gather_ends(still, &bracket, &few_bits, &many_bits);
+    if (told.number != 0)
+        return told;
+    if (few_bits > budget)
+        return refused(9, few_bits, 0);
+    if (many_bits > budget) {
+        bracket.open_count = keep_len;
+        for (size_t block = 0; block < keep_len; block++)
+            bracket.open[block] = (uint16_t)block;
+        narrow(&bracket, few_bits, budget);
+    }
+    const Choice *fits = many_bits > budget ? bracket.few : bracket.many;
+    for (size_t block = 0; block < keep_len; block++) {
+        keep[block] = fits[block].keep;
+        told.first += fits[block].pair.bits;
+        told.second += fits[block].pair.error;
+        told.third += (unsigned)__builtin_popcountll(keep[block]);
+    }
+    return told;
+}
+
+/* ---- The thinning job. ---- */
+
+static Answer check_thin(const int16_t *levels, size_t levels_len, const uint64_t *keep, size_t keep_len)
+{
+    if (!is_count(levels_len))
+        return refused(1, levels_len, 0);
+    if (keep_len != levels_len / POSITIONS)
+        return refused(5, keep_len, 0);
+    Answer told = check_levels(levels, keep_len);
+    for (size_t block = 0; block < keep_len && told.number == 0; block++) {
+        uint64_t wrong = keep[block] & ~nonzero(levels + POSITIONS * block);
+        if (wrong != 0)
+            return refused(10, block, (unsigned)__builtin_ctzll(wrong));
+    }
+    return told;
+}
+
+typedef int16_t Eight __attribute__((vector_size(16), aligned(2), may_alias));
+
+Answer fast_thin(int16_t *levels, size_t levels_len, const uint64_t *keep, size_t keep_len)
+{
+    static const Eight weights = {1, 2, 4, 8, 16, 32, 64, 128};
+    Answer told = check_thin(levels, levels_len, keep, keep_len);
+    if (told.number != 0)
+        return told;
+    for (size_t block = 0; block < keep_len; block++) {
+        uint64_t stays = keep[block] | 1;
+        told.first += (unsigned)__builtin_popcountll(keep[block]);
+        for (unsigned part = 0; part < 8; part++) {
+            Eight *eight = (Eight *)(levels + POSITIONS * block + 8 * part);
+            int16_t bits = (int16_t)(stays >> 8 * part & 255);
+            *eight &= (weights & bits) != 0;
+        }
+    }
+    return told;
+}
