@@ -152,7 +152,7 @@ static void print_row(const Subject *subject, Job job, const char *point, const 
     for (Side side = 0; side < SIDES; side++)
         print_time(times[side].least);
     print_ratio(times[OURS].least, times[FAST].least);
-    print_ratio(times[INDEPENDENT].least, times[OURS].least);
+    print_ratio(times[OURS].least, times[TABLE].least);
     putchar('\n');
     fflush(stdout);
 }
@@ -350,8 +350,8 @@ static void begin(Record *record)
     const char *emulator = strcmp(host, compiled_for) == 0 ? "none" : "yes";
     printf("machine: %s, %s; compiled for %s; emulator: %s\n", machine, host, compiled_for, emulator);
     printf("ns a block, the least CPU time of up to %d runs; points in hundredths of the bit range\n\n", MOST_RUNS);
-    printf("%-18s %6s %7s  %-8s %-5s %9s %9s %9s %8s %8s\n", "still", "blocks", "nonzero", "job", "point", "ours", "fast",
-           "indep.", "ours/f.", "indep./o.");
+    printf("%-18s %6s %7s  %-8s %-5s %9s %9s %9s %9s %8s %8s\n", "still", "blocks", "nonzero", "job", "point", "ours",
+           "fast", "table", "indep.", "ours/f.", "ours/t.");
     fprintf(record->json,
             "{\n  \"machine\": \"%s\", \"kind\": \"%s\", \"compiled_for\": \"%s\", \"emulator\": \"%s\",\n"
             "  \"compiler\": \"%s\",\n  \"unit\": \"ns a block, least CPU time\",\n  \"rows\": [",

@@ -1,12 +1,12 @@
-/* The four jobs without proofs, as fast as we can write them. What pays, in the order of its worth:
+/* The four jobs without proofs, as fast as we can write them. What pays:
    - levels that are not 0 are gathered from a mask, and the bits of every size and run are tabulated once a still;
-   - one number, (a x error + b x bits) x 2048 + bits, orders choices by cost and then bits; where it doesn't fit 64 bits,
+   - one number, (a x error + b x bits) x 2048 + bits, orders choices by cost and then by bits; where it would not fit,
      cost and bits are compared one after the other;
-   - a kept position that a later one beats whatever follows is forgotten, so that most searches are short;
-   - both ends of a block's corners are written down without a search, and the slopes of edges are whole numbers that
-     are sorted by their digits;
-   - a budget is narrowed down by prices at which the chords of the blocks would meet it, and blocks that choose alike
-     at both ends are left out. */
+   - a kept place that a later one beats whatever follows is forgotten, and so are the last levels while they can't pay
+     for their cheapest code, so most searches are short;
+   - both ends of a block's corners are known without a search, and slopes are whole numbers, sorted byte by byte;
+   - a budget is met by prices at which the blocks' chords meet it, and blocks that choose alike at both ends of the
+     bracket are left out. */
 #include "fast.h"
 
 #include <stdlib.h>
@@ -67,9 +67,18 @@ static inline uint64_t nonzero(const int16_t *levels)
 
 typedef struct {
     uint64_t drop; /* the error of dropping it */
-    uint16_t row;  /* where the table of bits has it after a run from DC; after a run from place p, p before that */
-    uint8_t place, size;
+    uint64_t code; /* size x 64 + place - 1: where the table of bits has its row, after a run from DC */
 } Level;
+
+static inline unsigned place_of(Level level)
+{
+    return (unsigned)(level.code + 1) % ROW;
+}
+
+static inline unsigned size_at(Level level)
+{
+    return (unsigned)level.code / ROW;
+}
 
 typedef struct {
     const Level *levels;
@@ -79,12 +88,13 @@ typedef struct {
 
 static inline Gathered gather(const int16_t *levels, const uint8_t *steps, Level *room)
 {
-    Gathered gathered = {room, 0, 0};
-    for (uint64_t mask = nonzero(levels); mask != 0; mask &= mask - 1) {
+    uint64_t mask = nonzero(levels);
+    Gathered gathered = {room, (unsigned)__builtin_popcountll(mask), 0};
+    for (; mask != 0; mask &= mask - 1) {
         unsigned place = (unsigned)__builtin_ctzll(mask), level = (unsigned)abs(levels[place]);
         unsigned size = 32 - (unsigned)__builtin_clz(level);
         uint64_t product = (uint64_t)level * steps[place];
-        room[gathered.count++] = (Level){product * product, (uint16_t)(ROW * size + place - 1), (uint8_t)place, (uint8_t)size};
+        *room++ = (Level){product * product, ROW * size + place - 1};
         gathered.error += product * product;
     }
     return gathered;
@@ -95,16 +105,17 @@ static inline Gathered gather(const int16_t *levels, const uint8_t *steps, Level
 typedef struct {
     uint16_t bits[SIZES * ROW]; /* of a level of a size after a run */
     uint16_t end;               /* of the end of block */
-    bool full;                  /* no code is missing */
-    unsigned gain;              /* bits that a longer run saves at most, where no code is missing */
+    bool full;                  /* no code is missing; only then the rest is used */
+    unsigned zeros;             /* bits of sixteen zeros */
+    unsigned least[SIZES];      /* bits of a level of a size, of any size at 0 */
+    unsigned gain;              /* bits that a longer run saves at most */
 } Table;
 
 static void tabulate(const uint8_t *lengths, Table *table)
 {
-    unsigned zeros = lengths[SIXTEEN_ZEROS];
-    table->end = lengths[END_OF_BLOCK] ? lengths[END_OF_BLOCK] : NO_CODE;
-    table->full = zeros != 0 && lengths[END_OF_BLOCK] != 0;
-    table->gain = 0;
+    unsigned zeros = lengths[SIXTEEN_ZEROS], end = lengths[END_OF_BLOCK];
+    *table = (Table){.end = (uint16_t)(end ? end : NO_CODE), .full = zeros != 0 && end != 0, .zeros = zeros,
+                     .least[0] = NO_CODE};
     for (unsigned size = 1; size < SIZES; size++) {
         unsigned least = NO_CODE;
         for (unsigned run = LAST; run-- > 0;) {
@@ -115,93 +126,186 @@ static void tabulate(const uint8_t *lengths, Table *table)
             least = bits < least ? bits : least;
             table->gain = bits - least > table->gain ? bits - least : table->gain;
         }
+        table->least[size] = least;
+        table->least[0] = least < table->least[0] ? least : table->least[0];
     }
 }
 
 /* ---- The best choice of a block. ---- */
 
-/* The best choices that end at some kept place, in rising place; 0 is DC's. */
+/* A price as keys have it. */
+typedef struct {
+    uint64_t a, b;
+} Scaled;
+
+static inline Scaled scaled(uint64_t a, uint64_t b)
+{
+    return (Scaled){a * SCALE, b * SCALE + 1};
+}
+
+static inline Choice choice_of(uint64_t key, uint64_t keep, uint64_t a, uint64_t b)
+{
+    uint64_t bits = key % SCALE;
+    return (Choice){{bits, (key / SCALE - b * bits) / a}, keep};
+}
+
+/* The best choice that ends at a kept place, the end of block left out; DC's keeps nothing. */
 typedef struct {
     uint64_t key, keep;
     unsigned place;
 } Node;
 
-/* By keys. A choice's key less that of another one is b times the bits between them, the scaled error taken off. */
-static inline bool search_keys(const Table *table, Gathered block, uint64_t a, uint64_t b, bool full, Choice *best)
+/* The nodes that may still be gone on from, in rising place; a key of 0 stands before the first. */
+typedef struct {
+    uint64_t key[POSITIONS + 1], keep[POSITIONS + 1];
+    unsigned place[POSITIONS + 1];
+} Nodes;
+
+/* Which of them those are: none if the last is before the first. */
+typedef struct {
+    unsigned first, last;
+} Span;
+
+/* The best node that ends at a level: of equal keys the earliest place, which has the smallest keep number. */
+static inline Node go_on(const Nodes *nodes, Span span, Node recent, Level level, const uint16_t *row, Scaled price)
 {
-    Node nodes[POSITIONS];
-    uint64_t scaled_a = a * SCALE, scaled_b = b * SCALE + 1, end = table->end == NO_CODE ? FAR : scaled_b * table->end;
-    uint64_t slack = scaled_b * table->gain;
+    uint64_t found = FAR;
+    unsigned at = 0;
+    for (unsigned j = span.first; j <= span.last; j++) {
+        uint64_t key = nodes->key[j] + price.b * row[-(ptrdiff_t)nodes->place[j]];
+        at = key < found ? j : at;
+        found = key < found ? key : found;
+    }
+    uint64_t key = recent.key + price.b * row[-(ptrdiff_t)recent.place], keep = nodes->keep[at];
+    keep = key < found ? recent.keep : keep;
+    found = key < found ? key : found;
+    return (Node){found - price.a * level.drop, keep | UINT64_C(1) << place_of(level), place_of(level)};
+}
+
+/* Forgets nodes that the new one beats whatever follows: a longer run saves `slack` at most, and one that is longer by
+   16 or more costs sixteen zeros besides. */
+static inline Span forget(Nodes *nodes, Span span, Node recent, Node node, uint64_t slack, uint64_t zeros)
+{
+    uint64_t bound = node.key + slack;
+    if (recent.key <= bound) {
+        span.last++;
+        nodes->key[span.last] = recent.key;
+        nodes->keep[span.last] = recent.keep;
+        nodes->place[span.last] = recent.place;
+    } else {
+        while (nodes->key[span.last] > bound)
+            span.last--;
+    }
+    if (span.last > span.first + 7)
+        while (span.first < span.last &&
+               nodes->key[span.first] + zeros * ((node.place - nodes->place[span.first]) / 16) > bound)
+            nodes->key[span.first++] = 0;
+    return span;
+}
+
+/* How many levels are left when the last ones that can't pay for their cheapest code are dropped. */
+static inline unsigned paying(const Table *table, Gathered block, Scaled price)
+{
+    unsigned count = block.count;
+    while (count > 0 && place_of(block.levels[count - 1]) != LAST &&
+           price.a * block.levels[count - 1].drop < price.b * table->least[size_at(block.levels[count - 1])])
+        count--;
+    return count;
+}
+
+/* By keys, where no code is missing. */
+static inline Choice search_full(const Table *table, Gathered block, uint64_t a, uint64_t b)
+{
+    Scaled price = scaled(a, b);
+    uint64_t end = price.b * table->end, slack = price.b * table->gain, zeros = price.b * table->zeros;
+    unsigned count = paying(table, block, price);
+    Node recent = {price.a * block.error, 0, 0};
+    uint64_t least = recent.key + end, keep = 0;
+    Nodes nodes;
+    Span span = {1, 0};
+    nodes.key[0] = nodes.keep[0] = 0;
+    for (unsigned i = 0; i < count; i++) {
+        Level level = block.levels[i];
+        Node node = go_on(&nodes, span, recent, level, table->bits + level.code, price);
+        uint64_t whole = node.key + (node.place == LAST ? 0 : end);
+        keep = whole < least ? node.keep : keep;
+        least = whole < least ? whole : least;
+        span = forget(&nodes, span, recent, node, slack, zeros);
+        recent = node;
+    }
+    return choice_of(least, keep, a, b);
+}
+
+/* By keys, where codes are missing; false: no choice is codable. */
+static bool search_gaps(const Table *table, Gathered block, uint64_t a, uint64_t b, Choice *best)
+{
+    Scaled price = scaled(a, b);
+    Node nodes[POSITIONS] = {{price.a * block.error, 0, 0}};
     unsigned count = 1;
-    nodes[0] = (Node){scaled_a * block.error, 0, 0};
-    uint64_t least = nodes[0].key + end, keep = 0;
+    uint64_t end = table->end == NO_CODE ? FAR : price.b * table->end, least = nodes[0].key + end, keep = 0;
     for (unsigned i = 0; i < block.count; i++) {
         Level level = block.levels[i];
-        const uint16_t *row = table->bits + level.row;
+        const uint16_t *row = table->bits + level.code;
         uint64_t found = FAR;
         unsigned at = 0;
         for (unsigned j = 0; j < count; j++) {
             unsigned bits = row[-(ptrdiff_t)nodes[j].place];
-            uint64_t key = !full && bits == NO_CODE ? FAR : nodes[j].key + scaled_b * bits;
+            uint64_t key = bits == NO_CODE ? FAR : nodes[j].key + price.b * bits;
             at = key < found ? j : at;
             found = key < found ? key : found;
         }
-        if (!full && found == FAR)
+        if (found == FAR)
             continue;
-        Node node = {found - scaled_a * level.drop, nodes[at].keep | UINT64_C(1) << level.place, level.place};
-        uint64_t whole = node.key + (level.place == LAST ? 0 : end);
-        keep = whole < least ? node.keep : keep;
+        unsigned place = place_of(level);
+        nodes[count] = (Node){found - price.a * level.drop, nodes[at].keep | UINT64_C(1) << place, place};
+        uint64_t whole = nodes[count].key + (place == LAST ? 0 : end);
+        keep = whole < least ? nodes[count].keep : keep;
         least = whole < least ? whole : least;
-        if (full)
-            while (count > 0 && nodes[count - 1].key > node.key + slack)
-                count--;
-        nodes[count++] = node;
+        count++;
     }
-    uint64_t bits = least % SCALE;
-    *best = (Choice){{bits, (least / SCALE - b * bits) / a}, keep};
+    *best = choice_of(least, keep, a, b);
     return least < FAR;
+}
+
+typedef struct {
+    uint64_t cost, bits, keep;
+    unsigned place;
+} Wide;
+
+/* The first of the nodes to go on from, by cost, bits and place; the cost is FAR if there is none. */
+static Wide first_wide(const Wide *nodes, unsigned count, const uint16_t *row, uint64_t b)
+{
+    Wide first = {FAR, 0, 0, 0};
+    for (unsigned j = 0; j < count; j++) {
+        unsigned more = row[-(ptrdiff_t)nodes[j].place];
+        uint64_t cost = more == NO_CODE ? FAR : nodes[j].cost + b * more, bits = nodes[j].bits + more;
+        if (cost < first.cost || (cost == first.cost && cost < FAR && bits < first.bits))
+            first = (Wide){cost, bits, nodes[j].keep, nodes[j].place};
+    }
+    return first;
 }
 
 /* By cost and bits, where keys don't fit. */
 static bool search_wide(const Table *table, Gathered block, uint64_t a, uint64_t b, Choice *best)
 {
-    struct {
-        uint64_t cost, bits, keep;
-        unsigned place;
-    } nodes[POSITIONS];
+    Wide nodes[POSITIONS] = {{a * block.error, 0, 0, 0}};
     unsigned count = 1;
-    nodes[0].cost = a * block.error;
-    nodes[0].bits = nodes[0].keep = nodes[0].place = 0;
+    uint16_t ends[POSITIONS]; /* a row for the end of block: place 63 needs none */
+    for (unsigned i = 0; i < POSITIONS; i++)
+        ends[i] = i == 0 ? 0 : table->end;
     for (unsigned i = 0; i < block.count; i++) {
         Level level = block.levels[i];
-        const uint16_t *row = table->bits + level.row;
-        uint64_t cost = FAR, bits = 0;
-        unsigned at = 0;
-        for (unsigned j = 0; j < count; j++) {
-            unsigned more = row[-(ptrdiff_t)nodes[j].place];
-            uint64_t reached = more == NO_CODE ? FAR : nodes[j].cost + b * more, sum = nodes[j].bits + more;
-            bool first = reached < cost || (reached == cost && sum < bits);
-            at = first ? j : at;
-            bits = first ? sum : bits;
-            cost = first ? reached : cost;
-        }
-        if (cost == FAR)
+        Wide node = first_wide(nodes, count, table->bits + level.code, b);
+        if (node.cost == FAR)
             continue;
-        nodes[count].cost = cost - a * level.drop;
-        nodes[count].bits = bits;
-        nodes[count].keep = nodes[at].keep | UINT64_C(1) << level.place;
-        nodes[count++].place = level.place;
+        node.place = place_of(level);
+        node.keep |= UINT64_C(1) << node.place;
+        node.cost -= a * level.drop;
+        nodes[count++] = node;
     }
-    uint64_t cost = FAR;
-    for (unsigned j = 0; j < count; j++) {
-        unsigned more = nodes[j].place == LAST ? 0 : table->end;
-        uint64_t reached = more == NO_CODE ? FAR : nodes[j].cost + b * more, sum = nodes[j].bits + more;
-        if (reached < cost || (reached == cost && cost < FAR && sum < best->pair.bits)) {
-            cost = reached;
-            *best = (Choice){{sum, (cost - b * sum) / a}, nodes[j].keep};
-        }
-    }
-    return cost < FAR;
+    Wide whole = first_wide(nodes, count, ends + LAST, b);
+    *best = (Choice){{whole.bits, (whole.cost - b * whole.bits) / a}, whole.keep};
+    return whole.cost < FAR;
 }
 
 /* False: no choice is codable. Beyond a x error one bit more is dearer than all error, so b changes nothing there. */
@@ -211,7 +315,10 @@ static inline bool search(const Table *table, Gathered block, uint64_t a, uint64
     b = b <= all ? b : all + 1;
     if (all + b * MOST_BITS >= KEYS_FIT)
         return search_wide(table, block, a, b, best);
-    return table->full ? search_keys(table, block, a, b, true, best) : search_keys(table, block, a, b, false, best);
+    if (!table->full)
+        return search_gaps(table, block, a, b, best);
+    *best = search_full(table, block, a, b);
+    return true;
 }
 
 /* ---- The checks, in the order of their numbers. ---- */
@@ -273,18 +380,18 @@ static Answer check_price(Still still, uint64_t a, uint64_t b, size_t keep_len)
     return check_levels(still.levels, keep_len);
 }
 
-Answer fast_price(Still still, uint64_t a, uint64_t b, uint64_t *keep, size_t keep_len)
+/* Decides a block; false: no choice is codable. */
+typedef bool Decide(const void *table, Gathered block, uint64_t a, uint64_t b, Choice *best);
+
+static inline Answer price_blocks(Still still, uint64_t a, uint64_t b, uint64_t *keep, size_t keep_len, const void *table,
+                                  Decide *decide)
 {
-    Answer told = check_price(still, a, b, keep_len);
-    if (told.number != 0)
-        return told;
-    Table table;
+    Answer told = accepted;
     Level room[POSITIONS];
     uint64_t chosen[MOST_BLOCKS];
-    tabulate(still.lengths, &table);
     for (size_t block = 0; block < keep_len; block++) {
         Choice best;
-        if (!search(&table, gather(still.levels + POSITIONS * block, still.steps, room), a, b, &best))
+        if (!decide(table, gather(still.levels + POSITIONS * block, still.steps, room), a, b, &best))
             return refused(7, block, 0);
         chosen[block] = best.keep;
         told.first += best.pair.bits;
@@ -295,19 +402,92 @@ Answer fast_price(Still still, uint64_t a, uint64_t b, uint64_t *keep, size_t ke
     return told;
 }
 
+static inline bool decide_fast(const void *table, Gathered block, uint64_t a, uint64_t b, Choice *best)
+{
+    return search(table, block, a, b, best);
+}
+
+Answer fast_price(Still still, uint64_t a, uint64_t b, uint64_t *keep, size_t keep_len)
+{
+    Answer told = check_price(still, a, b, keep_len);
+    if (told.number != 0)
+        return told;
+    Table table;
+    tabulate(still.lengths, &table);
+    return price_blocks(still, a, b, keep, keep_len, &table, decide_fast);
+}
+
+/* ---- The price job by a plain table search, where nothing is forgotten: to tell what forgetting brings. ---- */
+
+typedef struct {
+    Table table;
+    uint64_t costs[SIZES * ROW]; /* scaled b times bits */
+} Costs;
+
+static inline bool decide_by_table(const void *costs, Gathered block, uint64_t a, uint64_t b, Choice *best)
+{
+    const Costs *from = costs;
+    uint64_t all = a * block.error, key[POSITIONS], keep[POSITIONS];
+    unsigned place[POSITIONS];
+    if (!from->table.full || b > all || all + b * MOST_BITS >= KEYS_FIT)
+        return search(&from->table, block, a, b, best);
+    Scaled price = scaled(a, b);
+    uint64_t end = price.b * from->table.end, least = price.a * block.error + end, kept = 0;
+    key[0] = price.a * block.error;
+    keep[0] = place[0] = 0;
+    for (unsigned i = 0; i < block.count; i++) {
+        const uint64_t *row = from->costs + block.levels[i].code;
+        uint64_t found = FAR;
+        unsigned at = 0;
+        for (unsigned j = 0; j <= i; j++) {
+            uint64_t reached = key[j] + row[-(ptrdiff_t)place[j]];
+            at = reached < found ? j : at;
+            found = reached < found ? reached : found;
+        }
+        place[i + 1] = place_of(block.levels[i]);
+        key[i + 1] = found - price.a * block.levels[i].drop;
+        keep[i + 1] = keep[at] | UINT64_C(1) << place[i + 1];
+        uint64_t whole = key[i + 1] + (place[i + 1] == LAST ? 0 : end);
+        kept = whole < least ? keep[i + 1] : kept;
+        least = whole < least ? whole : least;
+    }
+    *best = choice_of(least, kept, a, b);
+    return true;
+}
+
+Answer table_price(Still still, uint64_t a, uint64_t b, uint64_t *keep, size_t keep_len)
+{
+    Answer told = check_price(still, a, b, keep_len);
+    if (told.number != 0)
+        return told;
+    Costs costs;
+    tabulate(still.lengths, &costs.table);
+    for (unsigned i = 0; i < SIZES * ROW; i++)
+        costs.costs[i] = scaled(a, b).b * costs.table.bits[i];
+    return price_blocks(still, a, b, keep, keep_len, &costs, decide_by_table);
+}
+
 /* ---- The ends of a block's corners. ---- */
 
-/* Where no code is missing, all is kept at the last corner; at the first nothing is, unless keeping place 63 is
-   cheaper than the end of block. */
+/* Whether keeping place 63 may take as few bits as the end of block: alone, or with a kept place before it. */
+static bool may_save_end(const Table *table, Gathered block)
+{
+    if (block.count == 0 || place_of(block.levels[block.count - 1]) != LAST)
+        return false;
+    Level last = block.levels[block.count - 1];
+    return table->end >= table->bits[last.code] || table->end >= table->least[size_at(last)] + table->least[0];
+}
+
+/* The corner with fewest bits: nothing is kept, as a rule. */
 static bool first_corner(const Table *table, Gathered block, Choice *first)
 {
-    bool may_end = block.count > 0 && block.levels[block.count - 1].place == LAST;
-    if (!table->full || may_end)
+    if (!table->full || may_save_end(table, block))
         return search(table, block, 1, block.error + 1, first);
     *first = (Choice){{table->end, block.error}, 0};
     return true;
 }
 
+/* The corner with most bits: all is kept, where no code is missing. */
 static bool last_corner(const Table *table, Gathered block, Choice *last)
 {
     if (!table->full)
@@ -315,8 +495,8 @@ static bool last_corner(const Table *table, Gathered block, Choice *last)
     *last = (Choice){{0, 0}, 0};
     unsigned before = 0;
     for (unsigned i = 0; i < block.count; i++) {
-        last->pair.bits += table->bits[block.levels[i].row - before];
-        before = block.levels[i].place;
+        last->pair.bits += table->bits[block.levels[i].code - before];
+        before = place_of(block.levels[i]);
         last->keep |= UINT64_C(1) << before;
     }
     last->pair.bits += before == LAST ? 0 : table->end;

@@ -6,6 +6,7 @@
 #include "../tests/plain.h"
 
 Answer fast_price(Still still, uint64_t a, uint64_t b, uint64_t *keep, size_t keep_len);
+Answer table_price(Still still, uint64_t a, uint64_t b, uint64_t *keep, size_t keep_len); /* by a plain table search */
 Answer fast_list(Still still, uint64_t *list, size_t list_len);
 Answer fast_fit(Still still, uint32_t budget, uint64_t *keep, size_t keep_len);
 Answer fast_thin(int16_t *levels, size_t levels_len, const uint64_t *keep, size_t keep_len);

@@ -91,12 +91,12 @@ function whole_below(x) { return x >= 0 || x == int(x) ? int(x) : int(x) - 1 }
 /"group": "levels"/ {
     job = field("job") == "price" || field("job") == "budget" ? field("job") field("point") : field("job")
     if (!(field("nonzero") in place_of)) {
-        count_at[++levels] = field("nonzero")
+        count_at[++levels] = field("nonzero") + 0
         place_of[field("nonzero")] = levels
     }
     at = place_of[field("nonzero")]
-    time[job, "ours", at] = field("ours")
-    time[job, "fast", at] = field("fast")
+    time[job, "ours", at] = field("ours") + 0
+    time[job, "fast", at] = field("fast") + 0
 }
 
 # mean squared error of a sample of the picture; the stop without error lies below every logarithm
@@ -137,8 +137,8 @@ function plot_levels(    i, key, greatest, least) {
     least = 1e9
     for (key in time)
         if (time[key] > 0 && key !~ /^(price(free|75|25)|budget(100|75|25))/) {
-            greatest = time[key] > greatest ? time[key] + 0 : greatest
-            least = time[key] < least ? time[key] + 0 : least
+            greatest = time[key] > greatest ? time[key] : greatest
+            least = time[key] < least ? time[key] : least
         }
     low_x = 0; high_x = 64
     low_y = whole_below(log10(least)); high_y = whole_below(log10(greatest)) + 1

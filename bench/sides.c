@@ -9,12 +9,13 @@
 #pragma weak anb_fit
 
 const char *const job_names[JOBS] = {"price", "list", "budget", "thinning"};
-const char *const side_names[SIDES] = {"ours", "fast", "independent"};
+const char *const side_names[SIDES] = {"ours", "fast", "table", "independent"};
 
 bool has(Side side, Job job)
 {
-    bool lacking = (job == LIST && anb_list == NULL) || (job == BUDGET && anb_fit == NULL);
-    return side != OURS || !lacking;
+    if (side == TABLE)
+        return job == PRICE;
+    return side != OURS || (job == LIST ? anb_list != NULL : job == BUDGET ? anb_fit != NULL : true);
 }
 
 static Answer run_ours(const Call *call)
@@ -74,6 +75,8 @@ Answer run(Side side, const Call *call)
         return run_ours(call);
     if (side == FAST)
         return run_fast(call);
+    if (side == TABLE)
+        return table_price(call->still, call->a, call->b, call->room, call->room_len);
     Plain plain = plain_of(call->still, BY_PROGRAMME);
     Answer told = run_plain(&plain, call);
     plain_done(&plain);

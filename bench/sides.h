@@ -8,6 +8,7 @@ typedef enum { PRICE, LIST, BUDGET, THINNING, JOBS } Job;
 typedef enum {
     OURS,        /* the proved archive */
     FAST,        /* bench/fast.c */
+    TABLE,       /* its plain table search, of the price job alone */
     INDEPENDENT, /* tests/plain.c */
     SIDES
 } Side;
@@ -26,7 +27,7 @@ typedef struct {
     int16_t *levels; /* of a thinning, whose keep numbers are in the room */
 } Call;
 
-bool has(Side side, Job job); /* whether the archive has the job, if the side is ours */
+bool has(Side side, Job job);
 Answer run(Side side, const Call *call);
 Answer run_plain(Plain *plain, const Call *call); /* with what is known of the still already */
 
