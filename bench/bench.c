@@ -4,6 +4,7 @@
 #include "../tests/random.h"
 #include "../tests/stills.h"
 #include "sides.h"
+#include "stack.h"
 
 #include <stdlib.h>
 #include <string.h>
@@ -13,10 +14,11 @@ enum {
     MOST_RUNS = 60,
     FEWEST_RUNS = 5,
     POINTS = 4,
-    FINE_A = 16,     /* prices on error for the points, so that b can be told finely */
+    MOST_ROWS = 100,    /* of real stills, for one job */
+    MOST_NOISES = 1000, /* rows in all */
+    FINE_A = 16,        /* prices on error for the points, so that b can be told finely */
     GROWING_LEVELS = 10,
-    GROWING_BLOCKS = 256,
-    MOST_STOPS = 200000
+    GROWING_BLOCKS = 256
 };
 
 static const double shortest_run = 0.0005, allowance = 0.15, hopeless = 1.0; /* seconds */
@@ -96,8 +98,11 @@ typedef struct {
 } Subject;
 
 typedef struct {
-    double ratio[JOBS][200]; /* ours to fast, on real stills */
-    unsigned count[JOBS];
+    size_t stack[JOBS]; /* bytes that ours uses */
+    double ratio[SIDES][JOBS][MOST_ROWS]; /* ours to the side, on real stills */
+    unsigned count[SIDES][JOBS];
+    double noise[MOST_NOISES]; /* the median run to the least, of ours */
+    unsigned noises;
     unsigned wrong; /* answers */
     FILE *json;
     bool first;
@@ -174,6 +179,12 @@ static void write_row(Record *record, const Subject *subject, const Call *call, 
     fputs("}", record->json);
 }
 
+static void *run_ours(void *call)
+{
+    run(OURS, call);
+    return NULL;
+}
+
 static void row(Record *record, Subject *subject, Call call, const char *point, uint64_t bits)
 {
     bool timed[SIDES];
@@ -183,12 +194,19 @@ static void row(Record *record, Subject *subject, Call call, const char *point, 
         if (timed[side] && side != INDEPENDENT && !same(&call, side, &subject->plain, record, subject->name))
             return;
     }
+    if (timed[OURS]) {
+        size_t used = stack_used(run_ours, &call);
+        record->stack[call.job] = used > record->stack[call.job] ? used : record->stack[call.job];
+    }
     timed[INDEPENDENT] = !(subject->slow && (call.job == LIST || call.job == BUDGET));
     time_sides(&call, timed, times);
     print_row(subject, call.job, point, times);
     write_row(record, subject, &call, point, bits, times);
-    if (strcmp(subject->group, "sample") == 0 && times[OURS].least > 0)
-        record->ratio[call.job][record->count[call.job]++] = times[OURS].least / times[FAST].least;
+    if (times[OURS].least > 0 && record->noises < MOST_NOISES)
+        record->noise[record->noises++] = times[OURS].median / times[OURS].least;
+    for (Side side = 0; side < SIDES; side++)
+        if (strcmp(subject->group, "sample") == 0 && times[OURS].least > 0 && times[side].least > 0)
+            record->ratio[side][call.job][record->count[side][call.job]++] = times[OURS].least / times[side].least;
 }
 
 /* ---- Points. ---- */
@@ -227,39 +245,56 @@ static void find_points(Subject *subject)
 
 /* ---- One still. ---- */
 
-static void time_still(Record *record, Subject *subject)
+static void time_prices(Record *record, Subject *subject, Call call)
 {
-    size_t blocks = subject->made.blocks;
-    uint64_t *room = room_for(3 * MOST_STOPS, sizeof *room);
-    int16_t *levels = room_for(POSITIONS * blocks, sizeof *levels);
-    Call call = {.still = made_still(&subject->made), .room = room, .room_len = blocks, .levels = levels};
-    char point[12];
-    find_points(subject);
+    call.job = PRICE;
     for (unsigned i = 0; i < POINTS; i++) {
+        char point[12];
         snprintf(point, sizeof point, i == 0 ? "free" : "%u", hundredths[i]);
-        call.job = PRICE;
         call.a = i == 0 ? 1 : FINE_A;
         call.b = subject->b[i];
         row(record, subject, call, point, bits_at(subject, call.a, call.b));
     }
-    call.a = call.b = 0;
-    double start = cpu_seconds();
-    call.room_len = 3 * plain_stops(&subject->plain)->count;
-    subject->slow = cpu_seconds() - start > hopeless;
-    call.job = LIST;
-    row(record, subject, call, "", subject->most);
-    call.room_len = blocks;
+}
+
+static void time_budgets(Record *record, Subject *subject, Call call)
+{
     call.job = BUDGET;
     for (unsigned i = 0; i < POINTS; i++) {
+        char point[12];
         snprintf(point, sizeof point, "%u", hundredths[i]);
         call.budget = (uint32_t)subject->bits[i];
         row(record, subject, call, point, run(FAST, &call).first);
     }
+}
+
+static void time_list(Record *record, Subject *subject, Call call, size_t corners)
+{
+    call.job = LIST;
+    call.room_len = 3 * corners;
+    call.room = room_for(call.room_len, sizeof *call.room);
+    row(record, subject, call, "", subject->most);
+    free(call.room);
+}
+
+/* Thinned by the keep numbers of the last budget. */
+static void time_still(Record *record, Subject *subject)
+{
+    size_t blocks = subject->made.blocks;
+    Call call = {.still = made_still(&subject->made), .room_len = blocks};
+    call.room = room_for(blocks, sizeof *call.room);
+    call.levels = room_for(POSITIONS * blocks, sizeof *call.levels);
+    double start = cpu_seconds();
+    size_t corners = plain_stops(&subject->plain)->count;
+    subject->slow = cpu_seconds() - start > hopeless;
+    find_points(subject);
+    time_prices(record, subject, call);
+    time_list(record, subject, call, corners);
+    time_budgets(record, subject, call);
     call.job = THINNING;
-    call.budget = 0;
-    row(record, subject, call, "", 0);
-    free(room);
-    free(levels);
+    row(record, subject, call, "", subject->bits[POINTS - 1]);
+    free(call.room);
+    free(call.levels);
 }
 
 static void time_made(Record *record, const char *group, const char *name, Made made)
@@ -365,25 +400,48 @@ static void write_stops(Record *record, const char *samples, const char *name)
     Made made;
     fprintf(record->json, "\n  ],\n  \"stops\": {\"still\": \"%s\", \"corners\": [", name);
     if (made_from_raw(samples, name, &made)) {
-        uint64_t *list = room_for(3 * MOST_STOPS, sizeof *list);
-        Call call = {.job = LIST, .still = made_still(&made), .room = list, .room_len = 3 * MOST_STOPS};
-        uint64_t corners = run(has(OURS, LIST) ? OURS : FAST, &call).first;
-        for (uint64_t i = 0; i < corners; i++)
-            fprintf(record->json, "%s\n    [%ju, %ju]", i ? "," : "", (uintmax_t)list[3 * i], (uintmax_t)list[3 * i + 1]);
-        free(list);
+        Plain plain = plain_of(made_still(&made), BY_PROGRAMME);
+        const Stops *stops = plain_stops(&plain);
+        for (size_t i = 0; i < stops->count; i++)
+            fprintf(record->json, "%s\n    [%ju, %ju]", i ? "," : "", (uintmax_t)stops->corners[i].bits,
+                    (uintmax_t)stops->corners[i].error);
+        plain_done(&plain);
         made_done(&made);
     }
-    fputs("\n  ]}\n}\n", record->json);
+    fputs("\n  ]}", record->json);
+}
+
+/* The median of ours to each side over the real stills, every point of every still counted. */
+static void print_medians(Record *record)
+{
+    for (Side side = FAST; side < SIDES; side++) {
+        printf("\nours to %s, median over the real stills:", side_names[side]);
+        for (Job job = 0; job < JOBS; job++) {
+            unsigned count = record->count[side][job];
+            qsort(record->ratio[side][job], count, sizeof ***record->ratio, by_size);
+            if (count > 0)
+                printf(" %s %.2f", job_names[job], record->ratio[side][job][count / 2]);
+        }
+    }
 }
 
 static int finish(Record *record)
 {
-    printf("\nours to fast, median over the real stills:");
+    const char *comma = "";
+    print_medians(record);
+    qsort(record->noise, record->noises, sizeof *record->noise, by_size);
+    if (record->noises > 0)
+        printf("\nnoise: the median run of ours to its least is %.3f in half of the rows, %.3f at most in 95 of 100",
+               record->noise[record->noises / 2], record->noise[record->noises * 95 / 100]);
+    printf("\nstack of ours, bytes at most:");
+    fprintf(record->json, ",\n  \"stack\": {");
     for (Job job = 0; job < JOBS; job++)
-        if (record->count[job] > 0) {
-            qsort(record->ratio[job], record->count[job], sizeof *record->ratio[job], by_size);
-            printf(" %s %.2f", job_names[job], record->ratio[job][record->count[job] / 2]);
+        if (record->stack[job] > 0) {
+            printf(" %s %zu", job_names[job], record->stack[job]);
+            fprintf(record->json, "%s\"%s\": %zu", comma, job_names[job], record->stack[job]);
+            comma = ", ";
         }
+    fputs("}\n}\n", record->json);
     printf("\n%u wrong\n", record->wrong);
     return fclose(record->json) == 0 && record->wrong == 0 ? 0 : 1;
 }

@@ -97,6 +97,7 @@ function whole_below(x) { return x >= 0 || x == int(x) ? int(x) : int(x) - 1 }
     at = place_of[field("nonzero")]
     time[job, "ours", at] = field("ours") + 0
     time[job, "fast", at] = field("fast") + 0
+    time[job, "table", at] = field("table") + 0
 }
 
 # mean squared error of a sample of the picture; the stop without error lies below every logarithm
@@ -120,8 +121,8 @@ function plot_stops(    i, samples, y, path) {
     text(542, 118, "start", "", "the stop without error")
 }
 
-# one line for a job and a side, named at its end
-function curve(job, side, colour, dashes, words, seat,    i, path, end) {
+# one line for a job and a side; its name stands at its end
+function curve(job, side, colour, dashes, words,    i, path, end) {
     for (i = 1; i <= levels; i++)
         if (time[job, side, i] > 0) {
             path = path sprintf("%s%.1f %.1f", path == "" ? "M" : "L", right(count_at[i]), up(time[job, side, i]))
@@ -130,31 +131,57 @@ function curve(job, side, colour, dashes, words, seat,    i, path, end) {
     if (end == "")
         return
     printf "<path d=\"%s\" stroke=\"%s\" stroke-width=\"2\"%s fill=\"none\"/>\n", path, colour, dashes
-    text(right(count_at[end]) + 8, up(time[job, side, end]) + 4 + seat, "start", " fill=\"" colour "\"", words)
+    names++
+    name_at[names] = up(time[job, side, end]) + 4
+    name_look[names] = " fill=\"" colour "\""
+    name_words[names] = words
 }
 
-function plot_levels(    i, key, greatest, least) {
+# the names of the curves from the top down, apart from each other
+function place_names(    i, next_one, last) {
+    last = -15
+    while (1) {
+        next_one = 0
+        for (i = 1; i <= names; i++)
+            if (!placed[i] && (!next_one || name_at[i] < name_at[next_one]))
+                next_one = i
+        if (!next_one)
+            return
+        placed[next_one] = 1
+        last = name_at[next_one] > last + 15 ? name_at[next_one] : last + 15
+        text(right_edge + 4, last, "start", name_look[next_one], name_words[next_one])
+    }
+}
+
+function is_shown(key) { return key !~ /^(price(free|75|25)|budget(100|75|25))/ }
+
+function plot_levels(    key, greatest, least, solid, dashed, dotted) {
     least = 1e9
     for (key in time)
-        if (time[key] > 0 && key !~ /^(price(free|75|25)|budget(100|75|25))/) {
+        if (time[key] > 0 && is_shown(key)) {
             greatest = time[key] > greatest ? time[key] : greatest
             least = time[key] < least ? time[key] : least
         }
     low_x = 0; high_x = 64
     low_y = whole_below(log10(least)); high_y = whole_below(log10(greatest)) + 1
     frame("Time against nonzero levels", "price and budget at half of the bit range; " machine " (" kind "), emulator: " emulator, "nonzero AC levels of a block", "ns a block", 8)
-    curve("list", "ours", "#c0392b", "", "list, ours", 0)
-    curve("list", "fast", "#c0392b", " stroke-dasharray=\"6 4\"", "list, fast", 0)
-    curve("budget50", "ours", "#2e7d32", "", "budget, ours", 0)
-    curve("budget50", "fast", "#2e7d32", " stroke-dasharray=\"6 4\"", "budget, fast", 0)
-    curve("price50", "ours", "#0b5fa5", "", "price, ours", 0)
-    curve("price50", "fast", "#0b5fa5", " stroke-dasharray=\"6 4\"", "price, fast", 0)
-    curve("thinning", "ours", "#666", "", "thinning, ours", 0)
-    curve("thinning", "fast", "#666", " stroke-dasharray=\"6 4\"", "thinning, fast", 0)
+    solid = ""; dashed = " stroke-dasharray=\"7 4\""; dotted = " stroke-dasharray=\"2 3\""
+    curve("list", "ours", "#c0392b", solid, "list, ours")
+    curve("list", "fast", "#c0392b", dashed, "list, fast")
+    curve("budget50", "ours", "#2e7d32", solid, "budget, ours")
+    curve("budget50", "fast", "#2e7d32", dashed, "budget, fast")
+    curve("price50", "ours", "#0b5fa5", solid, "price, ours")
+    curve("price50", "table", "#0b5fa5", dotted, "price, table")
+    curve("price50", "fast", "#0b5fa5", dashed, "price, fast")
+    curve("thinning", "ours", "#666", solid, "thinning, ours")
+    curve("thinning", "fast", "#666", dashed, "thinning, fast")
+    place_names()
     line(110, 88, 150, 88, "stroke=\"#222\" stroke-width=\"2\"")
     text(158, 92, "start", "", "ours: proved")
-    line(110, 108, 150, 108, "stroke=\"#222\" stroke-width=\"2\" stroke-dasharray=\"6 4\"")
+    line(110, 108, 150, 108, "stroke=\"#222\" stroke-width=\"2\"" dashed)
     text(158, 112, "start", "", "fast: plain C without proofs")
+    line(110, 128, 150, 128, "stroke=\"#222\" stroke-width=\"2\"" dotted)
+    text(158, 132, "start", "", "table: plain C, every pair tried")
 }
 
 END {
