@@ -32,6 +32,12 @@ static const char compiled_for[] = "aarch64";
 static const char compiled_for[] = "another machine";
 #endif
 
+#if defined __clang__
+static const char compiler[] = __VERSION__;
+#else
+static const char compiler[] = "gcc " __VERSION__;
+#endif
+
 /* ---- Times. ---- */
 
 /* ns a block; 0 where nothing was timed */
@@ -390,7 +396,7 @@ static void begin(Record *record)
     fprintf(record->json,
             "{\n  \"machine\": \"%s\", \"kind\": \"%s\", \"compiled_for\": \"%s\", \"emulator\": \"%s\",\n"
             "  \"compiler\": \"%s\",\n  \"unit\": \"ns a block, least CPU time\",\n  \"rows\": [",
-            machine, host, compiled_for, emulator, __VERSION__);
+            machine, host, compiled_for, emulator, compiler);
     record->first = true;
 }
 
