@@ -6,8 +6,6 @@ use answers::PointAnswer;
 use answers::Refusal;
 use halving::End;
 use halving::Range;
-use price::Bits;
-use price::Error;
 use price::Price;
 use winners::Outcome;
 ghost use mathlib.Core.Path.{_≡_};
@@ -38,11 +36,13 @@ fn refused(kind: Kind, first: u64) -> PointAnswer
 }
 
 // Stores the keep numbers and answers the point.
-fn answer(bits: Bits, error: Error, chosen: &[u64], keep: &mut [u64]) -> PointAnswer
+fn answer(point: Point, chosen: &[u64], keep: &mut [u64]) -> PointAnswer
     requires { ⌜ (length (now keep) ≤ length (now chosen)) × (length (now keep) ≤ 1024) ⌝ }
-    ensures { λ r. ⌜ Answered bits error (now (chosen .entry)) (now (keep .entry)) r (now (keep .exit)) ⌝ }
+    ensures { λ r. ⌜ Answered (point .bits) (point .error) (now (chosen .entry)) (now (keep .entry)) r (now (keep .exit)) ⌝ }
 {
     copy::copy(chosen, keep);
+    let bits = point.bits;
+    let error = point.error;
     PointAnswer::Point(Point {
         bits,
         error,
@@ -167,7 +167,15 @@ fn fit_above(
         Outcome::Uncodable(i) => refused(Kind::Uncodable, i as u64),
         Outcome::All(bits, error) => {
             if bits.0 <= budget {
-                return answer(bits, error, &lk, keep);
+                return answer(
+                    Point {
+                        bits,
+                        error,
+                        kept: 0,
+                    },
+                    &lk,
+                    keep,
+                );
             }
             let low = End {
                 price: 0,
@@ -200,7 +208,7 @@ fn fit_above(
                 &le,
                 &lk,
             );
-            answer(p.bits, p.error, ck, keep)
+            answer(p, ck, keep)
         }
     }
 }
