@@ -4,18 +4,12 @@
 #include "../tests/probe.h"
 #include "fast.h"
 
-/* An archive that lacks one of these jobs is timed without it. */
-#pragma weak anb_list
-#pragma weak anb_fit
-
 const char *const job_names[JOBS] = {"price", "list", "budget", "thinning"};
 const char *const side_names[SIDES] = {"ours", "fast", "table", "independent"};
 
 bool has(Side side, Job job)
 {
-    if (side == TABLE)
-        return job == PRICE;
-    return side != OURS || (job == LIST ? anb_list != NULL : job == BUDGET ? anb_fit != NULL : true);
+    return side != TABLE || job == PRICE;
 }
 
 static Answer run_ours(const Call *call)
