@@ -1,7 +1,7 @@
--- `stops::main` meets its contract: the bytes that are printed are the text for the bytes that were read.
+-- `stops::main` meets its contract: what is printed is the text for what was read, and that had room for 24,803 bytes.
 -- Assumes nothing.
-use mathlib.Core.Path.{sym}
-use lib.Seq.{length-take-le}
+use native.Mathlib.Omega.{arith}
+use lib.ListN.{length-take}
 use borrow.Author.Needs.{needs}
 use Rattle.stops.proofs.main.Statement.{statement}
 use Rattle.stops.proofs.main.Tie as tie
@@ -34,10 +34,13 @@ array-share-prefix-text : tie.Need-array-share-prefix-text
 array-share-prefix-text c = search needs
 
 slice-aggregate-print-2 : tie.Need-slice-aggregate-print-2
-slice-aggregate-print-2 c = sym (length-take-le _ _ (c .before .before .before .list-text .ensures .holds .within))
+slice-aggregate-print-2 c = simp length-take (omega (arith, c .before .before .before .list-text .ensures .holds .within))
 
 print-requires : tie.Need-print-requires
-print-requires c κs = let m = c .before .before .before .list-text .ensures in rw (m .holds .front) (m .prints)
+print-requires c κs =
+    let m = c .before .before .before .list-text .ensures in
+    let k = c .before .before .before .before .before .before .before .read-full .kept .1 .0 in
+    (simp length-take (omega (arith, k)), rw (m .holds .front) (m .prints))
 
 returns : tie.Need-returns
 returns c = search needs
