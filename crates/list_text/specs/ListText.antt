@@ -13,14 +13,14 @@ use Rattle.text.specs.Text.{cornersText, refusedText, Holds}
 abbrev pub mostListed : ℕ
 mostListed = 1024
 
--- the text of what a list job says, which is no point and no number of kept coefficients, with its list
+-- the text of what a list job says, with its list; it never says a point or a number of kept coefficients
 abbrev pub saidText : Said → List ℕ → List ℕ
 saidText (corners n) list = cornersText n list
 saidText (refused number first second) list = refusedText number first second
 saidText (point bits error n) list = []
 saidText (kept n) list = []
 
--- the text for a packet: its own refusal, or what the list job says of the still in it, with room for the most corners
+-- the text for a packet: its own refusal, or what the list job says of what it holds, with room for the most corners
 pub data Prints (packet text : List ℕ) : Type 0 where
   refuses : (number first second : ℕ) → packetVerdict packet ≡ refuse number first second → text ≡ refusedText number first second → Prints packet text
   tells : packetVerdict packet ≡ fine → (answer : CornersAnswer) (list : List ℕ)
