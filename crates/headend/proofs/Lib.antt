@@ -1,0 +1,4 @@
+pub mod Bytes
+pub mod Told
+pub mod Room
+pub mod Unique

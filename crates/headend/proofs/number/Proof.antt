@@ -1,0 +1,19 @@
+-- `headend::number` meets its contract: no refusal has a number above 11, so that it fits.
+-- Assumes nothing.
+use native.Mathlib.Omega.{arith}
+use borrow.Author.Needs.{needs}
+use Rattle.headend.proofs.Told.{kinds}
+use Rattle.headend.proofs.number.Statement.{statement}
+use Rattle.headend.proofs.number.Tie as tie
+
+number-requires : tie.Need-number-requires
+number-requires c κs = search needs
+
+cast-result : tie.Need-cast-result
+cast-result c = omega (arith, c .number .ensures, kinds (c .before .args .r .kind))
+
+returns : tie.Need-returns
+returns c = search needs
+
+pub number-spec : {M : Type 1} → statement M
+number-spec = tie.close (tie.spec number-requires cast-result returns)
