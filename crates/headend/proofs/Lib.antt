@@ -1,4 +1,4 @@
 pub mod Bytes
+pub mod Buffer
 pub mod Told
-pub mod Room
 pub mod Unique

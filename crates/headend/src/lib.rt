@@ -1,4 +1,4 @@
-// The head-end's call: a packed still is fitted into a budget, and its keep numbers go into a buffer of bytes.
+// The head-end's call: a packed still fitted into a budget, its keep numbers in a buffer of bytes.
 use answers::Checked;
 use answers::PointAnswer;
 use answers::Refusal;
@@ -7,9 +7,12 @@ ghost use Prim.Native.Nat.{_*_, _≤_, _<_};
 ghost use lib.ListN.{length, replicate};
 ghost use Rattle.answers.specs.Said.{numberOf, saidPoint};
 ghost use Rattle.packet.specs.Packet.{packedBlocks, Room};
-ghost use Rattle.headend.specs.HeadEnd.{byteOf, bytesOf, numberSaid, places as placesFor, HeadEndMeets};
+ghost use Rattle.headend.specs.HeadEnd.{byteAt, bytesOf, numberSaid, places as placesFor, HeadEndMeets};
 
-fn number(r: Refusal) -> u32
+// No packet has more blocks.
+const MOST_BLOCKS: usize = 256;
+
+fn number_of(r: Refusal) -> u32
     ensures { λ n. ⌜ n ≡ numberOf (r .kind) ⌝ }
 {
     let kind = r.kind;
@@ -22,11 +25,11 @@ fn returned(answer: PointAnswer) -> u32
 {
     match answer {
         PointAnswer::Point(_) => 0,
-        PointAnswer::Refused(r) => number(r),
+        PointAnswer::Refused(r) => number_of(r),
     }
 }
 
-// How many keep numbers the job is lent: a buffer of the wrong length makes it one too many, and the job refuses by 5.
+// For how many keep numbers the buffer has places. A wrong length counts as one too many, so that the job refuses it in its order.
 fn places(n: usize, bytes: usize) -> usize
     requires { ⌜ n ≤ 256 ⌝ }
     ensures { λ r. ⌜ r ≡ placesFor n bytes ⌝ }
@@ -37,9 +40,9 @@ fn places(n: usize, bytes: usize) -> usize
     n + 1
 }
 
-fn byte(number: u64, k: usize) -> u8
+fn byte_at(k: usize, number: u64) -> u8
     requires { ⌜ k < 8 ⌝ }
-    ensures { λ r. ⌜ r ≡ byteOf number k ⌝ }
+    ensures { λ r. ⌜ r ≡ byteAt k number ⌝ }
 {
     ((number >> (8 * k)) % 256) as u8
 }
@@ -51,12 +54,12 @@ fn store(numbers: &[u64], keep: &mut [u8])
 {
     let mut i = 0;
     while i < keep.len() {
-        keep[i] = byte(numbers[i / 8], 7 - i % 8);
+        keep[i] = byte_at(7 - i % 8, numbers[i / 8]);
         i += 1;
     }
 }
 
-// The packet's still in the room lent for it, and the job on it.
+// The job on what the packet holds, in the room lent for it.
 fn fit_packed(
     packet: &[u8],
     budget: u32,
@@ -71,25 +74,24 @@ fn fit_packed(
     ensures { λ r. ⌜ HeadEndMeets (now (packet .entry)) budget (now (keep .entry)) r (now (keep .exit)) ⌝ }
 {
     packet::unpack(packet, levels, steps, lengths);
-    let r = returned(budget_job::fit(levels, steps, lengths, budget, numbers));
-    if r == 0 {
+    let number = returned(budget_job::fit(levels, steps, lengths, budget, numbers));
+    if number == 0 {
         store(numbers, keep);
     }
-    r
+    number
 }
 
-// A packet has at most 256 blocks.
 #[no_mangle]
 pub extern "C" fn anb_budget(packet: &[u8], budget: u32, keep: &mut [u8]) -> u32
     ensures { λ r. ⌜ HeadEndMeets (now (packet .entry)) budget (now (keep .entry)) r (now (keep .exit)) ⌝ }
 {
     match packet::check(packet) {
-        Checked::Refused(r) => number(r),
+        Checked::Refused(r) => number_of(r),
         Checked::Fine => {
-            let mut levels = [0i16; 16384];
+            let mut levels = [0i16; 64 * MOST_BLOCKS];
             let mut steps = [0u8; 64];
             let mut lengths = [0u8; 256];
-            let mut numbers = [0u64; 257];
+            let mut numbers = [0u64; MOST_BLOCKS + 1];
             let n = packet::blocks(packet);
             let room = places(n, keep.len());
             fit_packed(

@@ -1,14 +1,10 @@
 -- `headend::fit_packed` meets its contract: the job ran on what the packet holds, and its keep numbers are stored where it told 0.
 -- Assumes nothing.
-use mathlib.Core.Path.{_≡_, sym, _∙_}
-use Prim.Native.Nat.{_*_}
-use lib.ListN.{length, replicate}
+use mathlib.Core.Path.{sym, _∙_}
 use borrow.Author.Needs.{needs}
 use borrow.Author.Tests.{eq-eqb, ne-eqb}
-use Rattle.packet.specs.Packet.{packedBlocks, packedLevels, packedSteps, packedLengths}
-use Rattle.budget_job.specs.BudgetJob.{BudgetMeets}
-use Rattle.headend.specs.HeadEnd.{places, answers}
-use Rattle.headend.proofs.Told.{on-packet, eight-each}
+use Rattle.headend.specs.HeadEnd.{PackedMeets, answers}
+use Rattle.headend.proofs.Told.{packed, eight-each}
 use Rattle.headend.proofs.fit_packed.Statement.{statement}
 use Rattle.headend.proofs.fit_packed.Tie as tie
 
@@ -31,15 +27,12 @@ fit-requires c κs = search needs
 returned-requires : tie.Need-returned-requires
 returned-requires c κs = search needs
 
--- what the job promised, of the packet
 meets : (c : tie.After-returned)
-    → BudgetMeets (packedLevels (at-start c .args .packet .now)) (packedSteps (at-start c .args .packet .now)) (packedLengths (at-start c .args .packet .now)) (at-start c .args .budget) (replicate (places (packedBlocks (at-start c .args .packet .now)) (length (at-start c .args .keep .now))) 0) (at-fit c .fit .result) (at-fit c .fit .last .1 .1 .1 .1 .0)
-meets c = on-packet (at-start c .args .packet .now) (at-start c .args .keep .now) (at-unpack c .unpack .ensures) (at-start c .pre .1) (at-fit c .fit .ensures)
+    → PackedMeets (at-start c .args .packet .now) (at-start c .args .budget) (at-start c .args .keep .now) (at-fit c .fit .result) (at-fit c .fit .last .1 .1 .1 .1 .0)
+meets c = packed (at-unpack c .unpack .ensures) (at-start c .pre .1) (at-fit c .fit .ensures)
 
 store-requires : tie.Need-store-requires
-store-requires c κs =
-    let t = c .before .before in
-    eight-each (at-start (t .before) .args .packet .now) (at-start (t .before) .args .keep .now) (meets (t .before)) (sym (t .before .returned .ensures) ∙ t .if1 .taken)
+store-requires c κs = let t = c .before .before in eight-each (meets (t .before)) (sym (t .before .returned .ensures) ∙ t .if1 .taken)
 
 same-length : tie.Need-same-length
 same-length c = search needs

@@ -20,17 +20,17 @@ abbrev μ-loop : tie.MeasureT-loop
 loop-holds : tie.Need-loop-holds Inv-loop μ-loop
 loop-holds c = begun (c .before .before .pre)
 
-mul-byte : tie.Need-mul-byte Inv-loop μ-loop
-mul-byte c = search needs
+sub-byte-at : tie.Need-sub-byte-at Inv-loop μ-loop
+sub-byte-at c = search needs
 
-shared-slice-read-byte : tie.Need-shared-slice-read-byte Inv-loop μ-loop
-shared-slice-read-byte c = search needs
+mul-byte-at : tie.Need-mul-byte-at Inv-loop μ-loop
+mul-byte-at c = search needs
 
-sub-byte : tie.Need-sub-byte Inv-loop μ-loop
-sub-byte c = search needs
+shared-slice-read-byte-at : tie.Need-shared-slice-read-byte-at Inv-loop μ-loop
+shared-slice-read-byte-at c = search needs
 
-byte-requires : tie.Need-byte-requires Inv-loop μ-loop
-byte-requires c κs = search needs
+byte-at-requires : tie.Need-byte-at-requires Inv-loop μ-loop
+byte-at-requires c κs = search needs
 
 slice-write-keep : tie.Need-slice-write-keep Inv-loop μ-loop
 slice-write-keep c = search needs
@@ -46,7 +46,7 @@ loop-again c =
     let numbers = c .before .before .before .before .before .before .args .numbers .now in
     let i = c .before .before .before .loop .i in
     let h : i < 8 * length numbers = omega arith in
-    stored h (c .before .before .before .loop .inv) (c .byte .ensures ∙ sym (bytes-at numbers i h))
+    stored h (c .before .before .before .loop .inv) (c .byte-at .ensures ∙ sym (bytes-at numbers i h))
 
 same-length : tie.Need-same-length Inv-loop μ-loop
 same-length c = search needs
@@ -61,10 +61,10 @@ store-spec =
     Inv-loop
     μ-loop
     loop-holds
-    mul-byte
-    shared-slice-read-byte
-    sub-byte
-    byte-requires
+    sub-byte-at
+    mul-byte-at
+    shared-slice-read-byte-at
+    byte-at-requires
     slice-write-keep
     add-i
     loop-less
