@@ -43,12 +43,21 @@ pub data Entry (Exists : Type 0) (n x : ℕ) : Type 0 where
   some : Exists → x ≡ n → Entry Exists n x
   none : (Exists → ⊥) → x ≡ NO → Entry Exists n x
 
+-- two entries that no run reaches: the least bits of a level, and the most bits that a longer run saves
+abbrev pub LEAST : ℕ
+LEAST = 127
+
+abbrev pub SAVED : ℕ
+SAVED = 191
+
 -- the bits of a level of size s after a run r at s * 64 + r, and of the end of block after position j at 63 - j
 pub record Table (len : ℕ → ℕ) (bits : List ℕ) : Type 0 where
   pub long : length bits ≡ 704
   pub most : (x : ℕ) → getD bits x 0 ≤ NO
   pub levels : (s r : ℕ) → 0 < s → s ≤ 10 → r < 63 → Entry (LevelCode len r s) (levelBits len r s) (getD bits (s * 64 + r) 0)
   pub ends : (j : ℕ) → j < 64 → Entry (j < 63 → 0 < len 0) (pick (eqb j 63) 0 (len 0)) (getD bits (63 - j) 0)
+  pub least : (s r : ℕ) → 0 < s → s ≤ 10 → r < 63 → getD bits LEAST 0 ≤ getD bits (s * 64 + r) 0
+  pub saved : (s r q : ℕ) → 0 < s → s ≤ 10 → r < q → q < 63 → getD bits (s * 64 + r) 0 ≤ getD bits (s * 64 + q) 0 + getD bits SAVED 0
 
 unfoldable pub misses : List ℕ → ℕ → Bool
 misses bits x = eqb (getD bits x 0) NO

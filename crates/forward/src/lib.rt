@@ -14,6 +14,11 @@ const FAR: u64 = 4611686018427387904;
 // The mark of a missing code in the table of bits.
 pub const NO: u64 = 2048;
 
+// Two entries of the table that no run reaches: the least bits of a level, and the most bits that a longer run saves.
+pub const LEAST: usize = 127;
+
+pub const SAVED: usize = 191;
+
 // How many levels of a block are not 0, and the error of dropping them all.
 pub struct Gathered {
     pub count: usize,
