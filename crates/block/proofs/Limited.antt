@@ -1,6 +1,5 @@
 -- A block of levels, steps and lengths within their bounds is within its own.
 -- Assumes nothing.
-use mathlib.Core.Path.{_≡_, refl, ap}
 use mathlib.Core.List.{List}
 use Prim.Native.Nat.{ℕ, _*_, _≤_}
 use native.Mathlib.Nat.{mul-le-mul}
@@ -9,7 +8,7 @@ use lib.IntN.{ℤ}
 use lib.ListN.{getD}
 use Rattle.block.specs.Level.{acLevel, sizeOf, squaredError, blockOf}
 use Rattle.block.specs.Limits.{Levels, Steps, Lengths, Limits, mostLevelError}
-use Rattle.block.proofs.Size.{size-most, size-none}
+use Rattle.block.proofs.Size.{size-most}
 
 pub error-product : {n q : ℕ} → n ≤ 1023 → q ≤ 255 → n * q ≤ 260865
 error-product h k = mul-le-mul h k
@@ -17,14 +16,10 @@ error-product h k = mul-le-mul h k
 pub error-level-most : {n q : ℕ} → n ≤ 1023 → q ≤ 255 → squaredError n q ≤ mostLevelError
 error-level-most h k = mul-le-mul (error-product h k) (error-product h k)
 
-error-none : (n q : ℕ) → n ≡ 0 → squaredError n q ≡ 0
-error-none n q e = rw e (omega arith)
-
 pub block-limits : {levels : List ℤ} {steps lengths : List ℕ} → Levels levels → Steps steps → Lengths lengths → Limits (blockOf levels steps lengths)
 block-limits {levels} {steps} {lengths} l s t = record {
   size-most = λ k. size-most (acLevel levels k);
   drops-most = λ k. error-level-most (l .most k) (s .most k);
   keeps-most = λ k. omega arith;
   len-most = t .most;
-  drops-zero = λ k e. error-none (acLevel levels k) (getD steps k 0) (size-none (acLevel levels k) (l .most k) e);
 }

@@ -34,4 +34,3 @@ pub record Limits (B : Block) : Type 0 where
   pub drops-most : (k : ℕ) → B .drops k ≤ mostLevelError
   pub keeps-most : (k : ℕ) → B .keeps k ≤ mostLevelError
   pub len-most : (i : ℕ) → B .len i ≤ 16
-  pub drops-zero : (k : ℕ) → B .size k ≡ 0 → B .drops k ≡ 0

@@ -1,6 +1,8 @@
 pub mod Chain
 pub mod Pricing
 pub mod Scanning
+pub mod Forgetting
+pub mod Cutting
 pub mod Winner
 pub mod Node
 pub mod Nodes

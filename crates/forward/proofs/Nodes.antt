@@ -16,11 +16,12 @@ use Rattle.price.specs.Best.{Way, Before, NoChoice}
 use Rattle.forward.specs.declared.Chosen.{Chosen}
 use Rattle.forward.specs.declared.Decision.the-variants as decision
 use Rattle.forward.specs.Decision.{OfBest}
-use Rattle.forward.specs.Given.{Given, Job, Decided, Room}
+use Rattle.forward.specs.Given.{SAVED, Given, Job, Decided, Room}
 use Rattle.forward.specs.Chain.{top, Chain, Coded, miss, stem, Candidate}
-use Rattle.forward.specs.Scanning.{FAR, costAt, bitAt, Span, Sums, Earliest, Reduced, Trail, Node, Node.some as n-some, Nodes, gain, Backed, Walked, Walks}
+use Rattle.forward.specs.Scanning.{FAR, costAt, bitAt, Span, Sums, Earliest, Behind, Beaten, Costs, Reduced, Trail, Node, Node.some as n-some, Nodes, gain, Backed, Walked, Walks}
 use Rattle.forward.proofs.Chain.{start, finish, finish-none, onto, endBits, way-onto, miss-more, keep-under}
 use Rattle.forward.proofs.Winner.{Winner, Winner.none as w-none, Winner.some as w-some, winner}
+use Rattle.forward.proofs.Forgetting.{behind, level-saves, end-saves}
 use Rattle.forward.proofs.Node.{ends-at, Ends, sums-of, span-of, level-span, reduces, node-next}
 
 start-cost : (a b x y : ℕ) → x ≡ y → a * x + b * 0 ≡ a * (0 + y) + b * (0 + 0)
@@ -59,6 +60,26 @@ module _ {a b m total : ℕ} {place sizes errors bits : List ℕ} where
 
     pub nodes-span : 0 < i → i ≤ m → Span b i (entryOf sizes place i) place costs bits
     nodes-span h g = level-span (J .block) a b m total price place sizes errors bits (J .given) costs sums preds i (N .nodes (J .block) (J .given)) _ h g refl (N .cost-long)
+
+    pub nodes-behind : {low : ℕ} → 0 < i → i ≤ m → Beaten b bits costs low i → Behind (costAt b (entryOf sizes place i) place costs bits) low i
+    nodes-behind h g F =
+        behind F place (entryOf sizes place i) (nodes-span h g .at-most)
+        (λ k j l q f. level-saves (J .block) m total place sizes errors bits (J .given) i (entryOf sizes place i) h g refl k j l q)
+
+    pub nodes-costs : {low y : ℕ} → 0 < i → i ≤ m → Beaten b bits costs low i → y ≤ FAR → Costs b low i (set costs i y) bits
+    nodes-costs {low} {y} h g F f =
+        record {
+          b-most = price .b-high;
+          most = omega (arith, F .under);
+          inside = inside;
+          cost-long = length-set costs i y ∙ N .cost-long;
+          bits-long = J .given .table .long;
+          cost-most = omega (arith, getD-set-same costs i y 0 (omega (arith, N .cost-long, inside)));
+          saved-most = J .given .table .most SAVED;
+        }
+      where
+        inside : i < 64
+        inside = omega (arith, J .given .gathered .most)
 
     module _ {best j : ℕ} (low : 0 < i) (high : i ≤ m) (E : Earliest (costAt b (entryOf sizes place i) place costs bits) (bitAt (entryOf sizes place i) place sums bits) i best j) where
       pub nodes-reduce : best < FAR → a * getD errors i 0 ≤ best
@@ -165,6 +186,9 @@ module _ (B : Block) (a b m total : ℕ) (price : Accepted a b) (place sizes err
 module _ {a b m total : ℕ} {place sizes errors bits costs sums preds : List ℕ} (price : Accepted a b) (N : Nodes a b m total place sizes errors bits costs sums preds (m + 1)) where
   pub search-span : Job m total place sizes errors bits → Span b (m + 1) 63 place costs bits
   search-span J = end-span (J .block) a b m total price place sizes errors bits (J .given) costs sums preds (N .nodes (J .block) (J .given)) (N .cost-long)
+
+  pub search-behind : {low : ℕ} → Job m total place sizes errors bits → Beaten b bits costs low (m + 1) → Behind (costAt b 63 place costs bits) low (m + 1)
+  search-behind J F = behind F place 63 (omega arith) (end-saves (J .block) m total place sizes errors bits (J .given))
 
   module _ {best j : ℕ} (E : Earliest (costAt b 63 place costs bits) (bitAt 63 place sums bits) (m + 1) best j) where
     pub search-none : best ≡ FAR → Decided a b m total place sizes errors bits decision.Nothing

@@ -31,9 +31,12 @@ priced-most b n h g = by (eqb n NO)
     by true = omega arith
     by false = omega (arith, mul-le-mul h g)
 
--- a full table is priced by products alone
-pub full-priced : (bits : List ℕ) (b x : ℕ) → isFull bits ≡ true → x < 704 → priced b (getD bits x 0) ≡ b * getD bits x 0
+-- a full table has every code, and is priced by products alone
+pub full-there : (bits : List ℕ) (x : ℕ) → isFull bits ≡ true → x < 704 → getD bits x 0 ≡ NO → ⊥
 unfolding isFull misses
-full-priced bits b x f h =
+full-there bits x f h =
     let e : firstBelow (misses bits) 704 ≡ 704 = eqb-true (firstBelow (misses bits) 704) 704 f in
-    priced-some b (getD bits x 0) (eqb-false (getD bits x 0) NO (first-fails (misses bits) 704 x (omega arith)))
+    eqb-false (getD bits x 0) NO (first-fails (misses bits) 704 x (omega arith))
+
+pub full-priced : (bits : List ℕ) (b x : ℕ) → isFull bits ≡ true → x < 704 → priced b (getD bits x 0) ≡ b * getD bits x 0
+full-priced bits b x f h = priced-some b (getD bits x 0) (full-there bits x f h)

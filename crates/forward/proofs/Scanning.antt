@@ -8,13 +8,27 @@ use native.Mathlib.Nat.{mul-le-mul}
 use native.Mathlib.Decide.{decLt}
 use native.Mathlib.Omega.{arith}
 use borrow.Author.Count.{below-more}
+use borrow.Author.Tests.{lt-ltb, le-ltb}
 use lib.ListN.{getD}
 use Rattle.price.specs.Price.{mostOnBits}
 use Rattle.forward.specs.declared.Quick.{Quick}
 use Rattle.forward.specs.declared.Exact.{Exact}
 use Rattle.forward.specs.Given.{NO, isFull}
-use Rattle.forward.specs.Scanning.{FAR, costAt, bitAt, Span, Sums, Weighed, Weighed.better as w-better, Weighed.same as w-same, Weighed.worse as w-worse, Compared, Compared.better as x-better, Compared.shorter as x-shorter, Compared.dearer as x-dearer, Compared.longer as x-longer, Ahead, Ahead.cheaper, Ahead.shorter, Ahead.earlier, Earliest, Earliest.none as e-none, Earliest.some as e-some}
+use Rattle.forward.specs.Scanning.{FAR, costAt, bitAt, from, Span, Sums, Weighed, Weighed.better as w-better, Weighed.same as w-same, Weighed.worse as w-worse, Compared, Compared.better as x-better, Compared.shorter as x-shorter, Compared.dearer as x-dearer, Compared.longer as x-longer, Ahead, Ahead.cheaper, Ahead.shorter, Ahead.earlier, Earliest, Earliest.none as e-none, Earliest.some as e-some}
 use Rattle.forward.proofs.Pricing.{priced-most, full-priced}
+
+-- a cost that only the nodes from low on have
+module _ (low : ℕ) (c : ℕ → ℕ) (j : ℕ) where
+  pub from-below : j < low → from low c j ≡ FAR
+  unfolding from
+  from-below h = simp (lt-ltb j low h)
+
+  pub from-on : low ≤ j → from low c j ≡ c j
+  unfolding from
+  from-on h = simp (le-ltb j low h)
+
+pub far-below : (low : ℕ) (c : ℕ → ℕ) (j : ℕ) → j < low → FAR ≤ from low c j
+far-below low c j h = omega (arith, from-below low c j h)
 
 -- by cost alone
 pub record Scan (c : ℕ → ℕ) (s : Quick) (k : ℕ) : Type 0 where
@@ -25,8 +39,8 @@ pub record Scan (c : ℕ → ℕ) (s : Quick) (k : ℕ) : Type 0 where
   pub alone : s .tie ≡ 0 → s .cost < FAR → (j : ℕ) → j < k → c j ≡ s .cost → j ≡ s .at
 
 module _ (c : ℕ → ℕ) where
-  pub scan-start : Scan c (record { cost = FAR; at = 0; tie = 0 }) 0
-  scan-start = record { most = omega arith; far = λ e. refl; low = λ j h. absurd (omega arith); held = λ h. absurd (omega arith); alone = λ e h. absurd (omega arith) }
+  pub scan-start : (k : ℕ) → ((j : ℕ) → j < k → FAR ≤ c j) → Scan c (record { cost = FAR; at = 0; tie = 0 }) k
+  scan-start k l = record { most = omega arith; far = λ e. refl; low = l; held = λ h. absurd (omega arith); alone = λ e h. absurd (omega arith) }
 
   pub scan-step : (s r : Quick) (k : ℕ) → Scan c s k → Weighed s (c k) k r → Scan c r (k + 1)
   scan-step s r k i (w-better h e) =
@@ -90,8 +104,8 @@ ahead-trans x y i d m j e o l (earlier p r s) (shorter q f) = shorter (omega ari
 ahead-trans x y i d m j e o l (earlier p r s) (earlier q f g) = earlier (omega arith) (omega arith) (omega arith)
 
 module _ (c n : ℕ → ℕ) where
-  pub held-start : Held c n (record { cost = FAR; bits = 0; at = 0 }) 0
-  held-start = none refl (λ j h. absurd (omega arith))
+  pub held-start : (k : ℕ) → ((j : ℕ) → j < k → FAR ≤ c j) → Held c n (record { cost = FAR; bits = 0; at = 0 }) k
+  held-start k l = none refl l
 
   taken : (s : Exact) (k : ℕ) → c k < FAR → ((j : ℕ) → j < k → Ahead (c k) (n k) k (c j) (n j) j) → Held c n (record { cost = c k; bits = n k; at = k }) (k + 1)
   taken s k h l = some (omega arith) h refl refl (below-more (λ (j : ℕ). Ahead (c k) (n k) k (c j) (n j) j) k l (earlier refl refl (omega arith)))
@@ -133,7 +147,8 @@ module _ {b i at : ℕ} {place costs bits : List ℕ} (s : Span b i at place cos
   span-product = mul-le-mul (s .b-most) (s .bits-most (at - getD place j 0))
 
   -- a turn of the scan of a full table
-  pub quick-step : isFull bits ≡ true → (q r : Quick) → Scan (costAt b at place costs bits) q j
-      → Weighed q (getD costs j 0 + b * getD bits (at - getD place j 0) 0) j r → Scan (costAt b at place costs bits) r (j + 1)
-  quick-step f q r k w =
-      scan-step (costAt b at place costs bits) q r j k (rw (full-priced bits b (at - getD place j 0) f (omega (arith, s .at-most))) w)
+  pub quick-step : (low : ℕ) → low ≤ j → isFull bits ≡ true → (q r : Quick) → Scan (from low (costAt b at place costs bits)) q j
+      → Weighed q (getD costs j 0 + b * getD bits (at - getD place j 0) 0) j r → Scan (from low (costAt b at place costs bits)) r (j + 1)
+  quick-step low g f q r k w =
+      scan-step (from low (costAt b at place costs bits)) q r j k
+      (rw (from-on low (costAt b at place costs bits) j g, full-priced bits b (at - getD place j 0) f (omega (arith, s .at-most))) w)

@@ -2,15 +2,17 @@
 use mathlib.Core.Path.{_≡_}
 use mathlib.Core.List.{List, [], _∷_}
 use Prim.Native.Nat.{ℕ, _+_, _-_, _*_, _^_, _≤_, _<_}
-use lib.Dec.{eqb}
+use mathlib.Core.Bool.{true}
+use lib.Dec.{eqb, ltb}
 use lib.ListN.{length, getD}
 use Rattle.block.specs.First.{pick}
 use Rattle.block.specs.Block.{Block}
 use Rattle.block.specs.Choice.{keepNumber}
+use Rattle.block.specs.Limits.{mostLevelError}
 use Rattle.price.specs.Price.{mostOnBits}
 use Rattle.price.specs.Best.{cost}
 use Rattle.forward.specs.Chain.{sum, stem, Candidate, NoCandidate}
-use Rattle.forward.specs.Given.{NO, Given}
+use Rattle.forward.specs.Given.{NO, LEAST, SAVED, isFull, Given}
 use Rattle.forward.specs.declared.Quick.{Quick}
 use Rattle.forward.specs.declared.Exact.{Exact}
 use Rattle.forward.specs.declared.Chosen.{Chosen}
@@ -69,9 +71,71 @@ pub data Earliest (c n : ℕ → ℕ) (i best at : ℕ) : Type 0 where
   none : best ≡ FAR → at ≡ 0 → ((j : ℕ) → j < i → FAR ≤ c j) → Earliest c n i best at
   some : at < i → best < FAR → best ≡ c at → ((j : ℕ) → j < i → Ahead (c at) (n at) at (c j) (n j) j) → Earliest c n i best at
 
+-- a cost that only the nodes from low on have
+unfoldable pub from : ℕ → (ℕ → ℕ) → ℕ → ℕ
+from low c j = pick (ltb j low) FAR (c j)
+
+-- a node from low to i costs less than node j
+pub record Beats (c : ℕ → ℕ) (low i j : ℕ) : Type 0 where
+  pub at : ℕ
+  pub from-low : low ≤ at
+  pub under : at < i
+  pub less : c at < c j
+
+-- no node below low is the first of those below i
+pub record Behind (c : ℕ → ℕ) (low i : ℕ) : Type 0 where
+  pub most : low ≤ i
+  pub beaten : (j : ℕ) → j < low → Beats c low i j
+
+-- a cost and what a longer run saves at most
+abbrev pub bound : ℕ → List ℕ → List ℕ → ℕ → ℕ
+bound b bits costs k = getD costs k 0 + b * getD bits SAVED 0
+
+-- the same whatever the target is: a later node costs less by more than what a longer run saves
+pub record Outdone (b : ℕ) (bits costs : List ℕ) (low n j : ℕ) : Type 0 where
+  pub at : ℕ
+  pub from-low : low ≤ at
+  pub under : at < n
+  pub less : bound b bits costs at < getD costs j 0
+
+pub record Beaten (b : ℕ) (bits costs : List ℕ) (low n : ℕ) : Type 0 where
+  pub under : low < n
+  pub full : 0 < low → isFull bits ≡ true
+  pub outdone : (j : ℕ) → j < low → Outdone b bits costs low n j
+
+-- what makes forgetting by node i sound, and which nodes it forgets
+pub record Costs (b low i : ℕ) (costs bits : List ℕ) : Type 0 where
+  pub b-most : b ≤ mostOnBits
+  pub most : low ≤ i
+  pub inside : i < 64
+  pub cost-long : length costs ≡ 64
+  pub bits-long : length bits ≡ 704
+  pub cost-most : getD costs i 0 ≤ FAR
+  pub saved-most : getD bits SAVED 0 ≤ NO
+
+pub record Forgot (b low i : ℕ) (costs bits : List ℕ) (r : ℕ) : Type 0 where
+  pub from-low : low ≤ r
+  pub most : r ≤ i
+  pub full : low < r → isFull bits ≡ true
+  pub outdone : (j : ℕ) → low ≤ j → j < r → bound b bits costs i < getD costs j 0
+
+-- what makes cutting sound, and which levels it cuts
+pub record Cuttable (m : ℕ) (place errors bits : List ℕ) : Type 0 where
+  pub most : m ≤ 63
+  pub place-long : length place ≡ 64
+  pub errors-long : length errors ≡ 64
+  pub bits-long : length bits ≡ 704
+  pub least-most : getD bits LEAST 0 ≤ NO
+  pub error-most : (i : ℕ) → 0 < i → i ≤ m → getD errors i 0 ≤ mostLevelError
+
+pub record Cut (a least m : ℕ) (place errors : List ℕ) (r : ℕ) : Type 0 where
+  pub most : r ≤ m
+  pub inside : (i : ℕ) → r < i → i ≤ m → getD place i 0 ≡ 63 → ⊥
+  pub poor : (i : ℕ) → r < i → i ≤ m → a * getD errors i 0 ≤ least
+
 -- what a scan by cost alone answers: without a tie it has found the first, whatever the bits are
-pub record Sole (b i at : ℕ) (place costs bits : List ℕ) (r : Quick) : Type 0 where
-  pub first : r .tie ≡ 0 → (n : ℕ → ℕ) → Earliest (costAt b at place costs bits) n i (r .cost) (r .at)
+pub record Sole (b low i at : ℕ) (place costs bits : List ℕ) (r : Quick) : Type 0 where
+  pub first : r .tie ≡ 0 → (n : ℕ → ℕ) → Earliest (from low (costAt b at place costs bits)) n i (r .cost) (r .at)
 
 -- a cost with a level's error taken off; none stays none
 pub record Reduced (c a d r : ℕ) : Type 0 where

@@ -4,18 +4,19 @@ use Prim.Native.Nat.{_+_, _-_, _*_, _≤_, _<_}
 use native.Mathlib.Omega.{arith}
 use lib.ListN.{getD}
 use Rattle.forward.specs.Given.{Job}
-use Rattle.forward.specs.Scanning.{Span, Sums, Nodes}
+use Rattle.forward.specs.Scanning.{Span, Sums, Nodes, Beaten}
 use Rattle.forward.proofs.Scanning.{span-bit}
+use Rattle.forward.proofs.Forgetting.{reduced-most, beaten-start, beaten-next, beaten-end}
 use Rattle.forward.proofs.Node.{earliest-under, earliest-most}
-use Rattle.forward.proofs.Nodes.{total-most, index-most, nodes-start, nodes-sums, nodes-span, nodes-reduce, nodes-next, nodes-end}
+use Rattle.forward.proofs.Nodes.{total-most, index-most, nodes-start, nodes-sums, nodes-span, nodes-reduce, nodes-next, nodes-end, nodes-behind, nodes-costs}
 use Rattle.forward.proofs.fill.Statement.{statement}
 use Rattle.forward.proofs.fill.Tie as tie
 
 abbrev Inv-loop : tie.InvT-loop
-Inv-loop full bits place size drop cost₀ sum₀ pred₀ a b m total i₀ cost sum pred i = (0 < i) × (i ≤ m + 1) × Nodes a b m total place size drop bits cost sum pred i
+Inv-loop full bits place size drop cost₀ sum₀ pred₀ a b m total low₀ i₀ cost sum pred low i = (0 < i) × (i ≤ m + 1) × Nodes a b m total place size drop bits cost sum pred i × Beaten b bits cost low i
 
 abbrev μ-loop : tie.MeasureT-loop
-μ-loop full bits place size drop cost₀ sum₀ pred₀ a b m total i₀ cost sum pred i = m + 1 - i
+μ-loop full bits place size drop cost₀ sum₀ pred₀ a b m total low₀ i₀ cost sum pred low i = m + 1 - i
 
 -- what is known in a turn
 abbrev start : tie.In-loop Inv-loop μ-loop → tie.Start Inv-loop μ-loop
@@ -56,7 +57,7 @@ slice-write-sum : tie.Need-slice-write-sum Inv-loop μ-loop
 slice-write-sum c = omega (arith, c .before .before .before .before .before .before .before .before .pre .1 .1 .1 .second)
 
 loop-holds : tie.Need-loop-holds Inv-loop μ-loop
-loop-holds c = (omega arith, omega arith, rw (c .cost .ensures) (nodes-start (c .before .before .before .before .before .before .before .before .pre .1 .1 .1)))
+loop-holds c = (omega arith, omega arith, rw (c .cost .ensures) (nodes-start (c .before .before .before .before .before .before .before .before .pre .1 .1 .1)), beaten-start)
 
 mul-at : tie.Need-mul-at Inv-loop μ-loop
 mul-at c = omega (arith, inside c)
@@ -80,7 +81,7 @@ sub-at : tie.Need-sub-at Inv-loop μ-loop
 sub-at c = omega (arith, index (c .before .before))
 
 least-requires : tie.Need-least-requires Inv-loop μ-loop
-least-requires c κs = let t = c .before .before .before .before in (span t, (sums t, start t .pre .1 .0))
+least-requires c κs = let t = c .before .before .before .before in (span t, (sums t, (start t .pre .1 .0, nodes-behind (start t .pre .0) (job t) (t .before .loop .inv .2) (t .before .loop .inv .0) (t .loop-test .taken) (t .before .loop .inv .3))))
 
 mul-sum : tie.Need-mul-sum Inv-loop μ-loop
 mul-sum c = omega (arith, from c, inside (turn c))
@@ -136,17 +137,27 @@ mul-cost c = let f = c .before .before .before .before .before in omega (arith, 
 slice-write-cost-2 : tie.Need-slice-write-cost-2 Inv-loop μ-loop
 slice-write-cost-2 c = let f = c .before .before .before .before .before in omega (arith, inside (turn f), turn f .before .loop .inv .2 .cost-long)
 
+forget-requires : tie.Need-forget-requires Inv-loop μ-loop
+forget-requires c κs =
+    let f = c .before .before .before .before .before .before in
+    let t = turn f in
+    (start t .pre .1 .0, nodes-costs (start t .pre .0) (job t) (t .before .loop .inv .2) (t .before .loop .inv .0) (t .loop-test .taken) (t .before .loop .inv .3) (reduced-most (c .before .reduced .ensures) (earliest-most (f .least .ensures))))
+
 add-i : tie.Need-add-i Inv-loop μ-loop
-add-i c = let f = c .before .before .before .before .before in omega (arith, inside (turn f))
+add-i c = omega (arith, inside (turn (c .before .before .before .before .before .before .before)))
 
 loop-less : tie.Need-loop-less Inv-loop μ-loop
-loop-less c = let f = c .before .before .before .before .before in omega (arith, turn f .loop-test .taken)
+loop-less c = omega (arith, turn (c .before .before .before .before .before .before .before) .loop-test .taken)
 
 loop-again : tie.Need-loop-again Inv-loop μ-loop
 loop-again c =
-    let f = c .before .before .before .before .before in
-    let t = turn f in
-    (omega arith, omega (arith, t .loop-test .taken), nodes-next (start t .pre .0) (job t) (t .before .loop .inv .2) (t .before .loop .inv .0) (t .loop-test .taken) (f .least .ensures) (c .reduced .ensures))
+    let f = c .before .before .before .before .before .before .before in
+    let t = turn f in (
+      omega arith,
+      omega (arith, t .loop-test .taken),
+      nodes-next (start t .pre .0) (job t) (t .before .loop .inv .2) (t .before .loop .inv .0) (t .loop-test .taken) (f .least .ensures) (c .before .before .reduced .ensures),
+      beaten-next _ (t .before .loop .inv .3) (c .forget .ensures),
+    )
 
 same-length : tie.Need-same-length Inv-loop μ-loop
 same-length c = omega (arith, c .before .loop .inv .2 .cost-long, c .before .before .before .before .before .before .before .before .before .before .pre .1 .1 .1 .first)
@@ -158,7 +169,7 @@ same-length-3 : tie.Need-same-length-3 Inv-loop μ-loop
 same-length-3 c = omega (arith, c .before .loop .inv .2 .pred-long, c .before .before .before .before .before .before .before .before .before .before .pre .1 .1 .1 .third)
 
 returns : tie.Need-returns Inv-loop μ-loop
-returns c = nodes-end (c .before .loop .inv .2) (c .before .loop .inv .1) (c .loop-test .left)
+returns c = (nodes-end (c .before .loop .inv .2) (c .before .loop .inv .1) (c .loop-test .left), beaten-end _ (c .before .loop .inv .3) (c .before .loop .inv .1) (c .loop-test .left))
 
 pub fill-spec : {M : Type 1} → statement M
 fill-spec =
@@ -195,6 +206,7 @@ fill-spec =
     reduced-requires
     mul-cost
     slice-write-cost-2
+    forget-requires
     add-i
     loop-less
     loop-again

@@ -2,19 +2,19 @@
 -- Assumes nothing.
 use Prim.Native.Nat.{_-_, _≤_}
 use native.Mathlib.Omega.{arith}
-use Rattle.forward.specs.Scanning.{costAt, bitAt}
-use Rattle.forward.proofs.Scanning.{Held, held-start, held-step, held-end, span-cost, span-bit}
+use Rattle.forward.specs.Scanning.{costAt, bitAt, from}
+use Rattle.forward.proofs.Scanning.{far-below, from-on, Held, held-start, held-step, held-end, span-cost, span-bit}
 use Rattle.forward.proofs.least_exact.Statement.{statement}
 use Rattle.forward.proofs.least_exact.Tie as tie
 
 abbrev Inv-loop : tie.InvT-loop
-Inv-loop b i at place cost sum bits s₀ j₀ s j = (j ≤ i) × Held (costAt b at place cost bits) (bitAt at place sum bits) s j
+Inv-loop b low i at place cost sum bits s₀ j₀ s j = (low ≤ j) × (j ≤ i) × Held (from low (costAt b at place cost bits)) (bitAt at place sum bits) s j
 
 abbrev μ-loop : tie.MeasureT-loop
-μ-loop b i at place cost sum bits s₀ j₀ s j = i - j
+μ-loop b low i at place cost sum bits s₀ j₀ s j = i - j
 
 loop-holds : tie.Need-loop-holds Inv-loop μ-loop
-loop-holds c = (omega arith, held-start _ _)
+loop-holds c = (omega arith, c .before .before .before .before .pre .1 .1, held-start _ _ _ (far-below _ _))
 
 mul-n : tie.Need-mul-n Inv-loop μ-loop
 mul-n c = omega arith
@@ -50,7 +50,7 @@ shared-slice-read-compare-2 : tie.Need-shared-slice-read-compare-2 Inv-loop μ-l
 shared-slice-read-compare-2 c = omega arith
 
 add-compare-2 : tie.Need-add-compare-2 Inv-loop μ-loop
-add-compare-2 c = let s = c .before .before .before .before .before .before .before .before .before .before .before in omega (arith, span-bit (s .pre .0) _ (c .before .before .before .before .before .loop-test .taken) (s .pre .1))
+add-compare-2 c = let s = c .before .before .before .before .before .before .before .before .before .before .before in omega (arith, span-bit (s .pre .0) _ (c .before .before .before .before .before .loop-test .taken) (s .pre .1 .0))
 
 compare-requires : tie.Need-compare-requires Inv-loop μ-loop
 compare-requires c κs = tt
@@ -62,10 +62,12 @@ loop-less : tie.Need-loop-less Inv-loop μ-loop
 loop-less c = omega arith
 
 loop-again : tie.Need-loop-again Inv-loop μ-loop
-loop-again c = (omega arith, held-step _ _ _ _ _ (c .before .before .before .before .before .before .before .loop .inv .1) (rw (c .before .before .priced .ensures) at (c .compare .ensures)))
+loop-again c =
+    let l = c .before .before .before .before .before .before .before .loop in
+    (omega (arith, l .inv .0), omega arith, held-step _ _ _ _ _ (l .inv .2) (rw (from-on _ (costAt _ _ _ _ _) _ (l .inv .0)) (rw (c .before .before .priced .ensures) at (c .compare .ensures))))
 
 returns : tie.Need-returns Inv-loop μ-loop
-returns c = held-end _ _ _ _ _ (c .before .loop .inv .1) (omega (arith, c .before .loop .inv .0))
+returns c = held-end _ _ _ _ _ (c .before .loop .inv .2) (omega (arith, c .before .loop .inv .1))
 
 pub least-exact-spec : {M : Type 1} → statement M
 least-exact-spec =

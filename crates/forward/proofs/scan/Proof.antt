@@ -5,22 +5,22 @@ use mathlib.Core.Path.{sym, _∙_}
 use Prim.Native.Nat.{_-_, _≤_}
 use native.Mathlib.Omega.{arith}
 use borrow.Author.Tests.{not-false}
-use Rattle.forward.specs.Scanning.{costAt}
-use Rattle.forward.proofs.Scanning.{Scan, scan-start, quick-step, scan-end, span-product}
+use Rattle.forward.specs.Scanning.{costAt, from}
+use Rattle.forward.proofs.Scanning.{far-below, Scan, scan-start, quick-step, scan-end, span-product}
 use Rattle.forward.proofs.scan.Statement.{statement}
 use Rattle.forward.proofs.scan.Tie as tie
 
 abbrev Inv-loop : tie.InvT-loop
-Inv-loop full b i at place cost bits s₀ j₀ s j = (j ≤ i) × Scan (costAt b at place cost bits) s j
+Inv-loop full b low i at place cost bits s₀ j₀ s j = (low ≤ j) × (j ≤ i) × Scan (from low (costAt b at place cost bits)) s j
 
 abbrev μ-loop : tie.MeasureT-loop
-μ-loop full b i at place cost bits s₀ j₀ s j = i - j
+μ-loop full b low i at place cost bits s₀ j₀ s j = i - j
 
 returns : tie.Need-returns Inv-loop μ-loop
 returns c = record { first = λ t. absurd (omega arith) }
 
 loop-holds : tie.Need-loop-holds Inv-loop μ-loop
-loop-holds c = (omega arith, scan-start _)
+loop-holds c = (omega arith, c .before .before .before .before .pre .1 .1, scan-start _ _ (far-below _ _))
 
 mul-c : tie.Need-mul-c Inv-loop μ-loop
 mul-c c = omega arith
@@ -63,10 +63,10 @@ loop-less c = omega arith
 loop-again : tie.Need-loop-again Inv-loop μ-loop
 loop-again c =
     let s = c .before .before .before .before .before .before .before .before .before .before in
-    (omega arith, quick-step (s .pre .0) _ (c .before .before .before .before .loop-test .taken) (sym (s .pre .1) ∙ not-false _ (c .before .before .before .before .before .before .if1 .left)) _ _ (c .before .before .before .before .before .loop .inv .1) (c .weigh .ensures))
+    (omega (arith, c .before .before .before .before .before .loop .inv .0), omega arith, quick-step (s .pre .0) _ (c .before .before .before .before .loop-test .taken) _ (c .before .before .before .before .before .loop .inv .0) (sym (s .pre .1 .0) ∙ not-false _ (c .before .before .before .before .before .before .if1 .left)) _ _ (c .before .before .before .before .before .loop .inv .2) (c .weigh .ensures))
 
 returns-2 : tie.Need-returns-2 Inv-loop μ-loop
-returns-2 c = record { first = λ t n. scan-end _ n _ _ _ (c .before .loop .inv .1) (omega (arith, c .before .loop .inv .0)) t }
+returns-2 c = record { first = λ t n. scan-end _ n _ _ _ (c .before .loop .inv .2) (omega (arith, c .before .loop .inv .1)) t }
 
 pub scan-spec : {M : Type 1} → statement M
 scan-spec =
