@@ -5,7 +5,7 @@ use mathlib.Core.Bool.{true, false}
 use mathlib.Core.List.{List}
 use Prim.Native.Nat.{ℕ, _+_, _-_, _*_, _/_, _%_, _≤_, _<_}
 use native.Mathlib.Nat.{div-eq-of-lt, zero-mul}
-use native.Mathlib.Decide.{decLt}
+use native.Mathlib.Decide.{decLt, ℕ-discrete}
 use native.Mathlib.Omega.{arith}
 use borrow.Author.Count.{below-more}
 use borrow.Author.Tests.{eq-eqb, ne-eqb}
@@ -54,6 +54,17 @@ module _ {len : ℕ → ℕ} where
   pub filled-end : {bits : List ℕ} {x : ℕ} → Filled len bits x → x ≤ 704 → 704 ≤ x → Filled len bits 704
   filled-end {x = x} t h g = let e : x ≡ 704 = omega arith in rw e at t
 
+  pub filled-again : {bits : List ℕ} {x n : ℕ} → Filled len bits 704 → x < 704 → Slot len x n → Filled len (set bits x n) 704
+  filled-again {bits} {x} {n} t h s =
+      record {
+        long = length-set bits x n ∙ t .long;
+        slots =
+            λ y g. elim (ℕ-discrete y x) [
+              | yes e ↦ rw (e, getD-set-same bits x n 0 (omega (arith, t .long))) s
+              | no e ↦ rw (getD-set-other bits x y n 0 e) (t .slots y g)
+            ];
+      }
+
 -- the test of the entries below x
 pub record Passed (bits : List ℕ) (x : ℕ) : Type 0 where
   pub most : x ≤ 704
@@ -79,7 +90,7 @@ passed-start = record { most = omega arith; there = λ k h. absurd (omega arith)
 
 -- the table is what the search asks for
 module _ (len : ℕ → ℕ) (most : (i : ℕ) → len i ≤ 16) where
-  slot-most : (x n : ℕ) → x < 704 → Slot len x n → n ≤ NO
+  pub slot-most : (x n : ℕ) → x < 704 → Slot len x n → n ≤ NO
   slot-most x n h (last p q) = omega arith
   slot-most x n h (end p q (some u v)) = omega (arith, most 0)
   slot-most x n h (end p q (none u v)) = omega arith
@@ -114,4 +125,6 @@ table-of {lengths} {bits} t = go (λ i. getD lengths i 0) (t .lengths-fine .most
               ];
           levels = λ s r h g l. level-entry len most s r (s * 64 + r) (getD bits (s * 64 + r) 0) h l (omega arith) (omega arith) (slots (s * 64 + r) (omega arith));
           ends = λ j h. end-entry len most j (63 - j) (getD bits (63 - j) 0) h refl (slots (63 - j) (omega arith));
+          least = t .margins .every;
+          saved = t .margins .longer;
         }

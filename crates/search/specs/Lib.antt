@@ -1,3 +1,4 @@
 pub mod BitTable
 pub mod Ready
 pub mod Gathering
+pub mod Sweeping

@@ -4,12 +4,14 @@ use block::size_of;
 use block::squared_error;
 use forward::Decision;
 use forward::Gathered;
+use forward::LEAST;
 use forward::NO;
+use forward::SAVED;
 use forward::search;
 use price::Error;
 use price::Price;
 ghost use mathlib.Core.Path.{_≡_};
-ghost use Prim.Native.Nat.{_+_, _≤_, _<_};
+ghost use Prim.Native.Nat.{_+_, _-_, _≤_, _<_};
 ghost use lib.IntN.{natAbs};
 ghost use lib.ListN.{length, getD};
 ghost use Rattle.block.specs.Level.{acLevel};
@@ -19,12 +21,21 @@ ghost use Rattle.forward.specs.Given.{isFull, Room};
 ghost use Rattle.search.specs.BitTable.{Slot, Made};
 ghost use Rattle.search.specs.Ready.{GatheredFrom, Ready, Settles};
 ghost use Rattle.search.specs.Gathering.{LevelEntry, Filled, Next, Placed, Weighted};
+ghost use Rattle.search.specs.Sweeping.{Lesser, Greater, Widened, Counted, Swept};
 
 // How many entries the table of bits has: size * 64 + run, and the end of block as row 0.
 const ENTRIES: usize = 704;
 
 // The sixteen-zero code.
 const SIXTEEN_ZEROS: usize = 240;
+
+// What a sweep of the table from its last entry down has met: the least bits in this row, the least of all, and the most
+// bits that a longer run saves.
+struct Sweep {
+    row: u64,
+    least: u64,
+    saved: u64,
+}
 
 fn wide(x: u8) -> u64
     ensures { λ r. ⌜ r ≡ x ⌝ }
@@ -86,6 +97,71 @@ fn fill_table(lengths: &[u8], bits: &mut [u64])
     }
 }
 
+fn lesser(x: u64, y: u64) -> u64
+    ensures { λ r. ⌜ Lesser x y r ⌝ }
+{
+    if y < x {
+        return y;
+    }
+    x
+}
+
+fn greater(x: u64, y: u64) -> u64
+    ensures { λ r. ⌜ Greater x y r ⌝ }
+{
+    if x < y {
+        return y;
+    }
+    x
+}
+
+// How much x is above y, or 0.
+fn excess(x: u64, y: u64) -> u64
+    ensures { λ r. ⌜ r ≡ x - y ⌝ }
+{
+    if x < y {
+        return 0;
+    }
+    x - y
+}
+
+// The sweep with the n bits after one more run. The entry of run 63, which no run reaches, begins a row.
+fn widen(s: Sweep, run: usize, n: u64) -> Sweep
+    ensures { λ r. ⌜ Widened s run n r ⌝ }
+{
+    if run == 63 {
+        return Sweep {
+            row: NO,
+            least: s.least,
+            saved: s.saved,
+        };
+    }
+    Sweep {
+        row: lesser(s.row, n),
+        least: lesser(s.least, n),
+        saved: greater(s.saved, excess(n, s.row)),
+    }
+}
+
+// The two margins of a table: from the longest run down, so that each entry meets the least of the longer runs. They stay
+// below NO, since they mark no code as missing.
+fn margins(bits: &[u64]) -> Sweep
+    requires { ⌜ Counted (now bits) ⌝ }
+    ensures { λ r. ⌜ Swept (now (bits .entry)) r ⌝ }
+{
+    let mut s = Sweep {
+        row: NO,
+        least: NO - 1,
+        saved: 0,
+    };
+    let mut x = ENTRIES;
+    while 64 < x {
+        x -= 1;
+        s = widen(s, x % 64, bits[x]);
+    }
+    s
+}
+
 fn is_full(bits: &[u64]) -> bool
     requires { ⌜ length (now bits) ≡ 704 ⌝ }
     ensures { λ r. ⌜ r ≡ isFull (now (bits .entry)) ⌝ }
@@ -107,6 +183,9 @@ pub fn bit_table(lengths: &[u8], bits: &mut [u64]) -> bool
     ensures { λ r. ⌜ Made (now (lengths .entry)) (now (bits .exit)) r ⌝ }
 {
     fill_table(lengths, bits);
+    let s = margins(bits);
+    bits[LEAST] = s.least;
+    bits[SAVED] = s.saved;
     is_full(bits)
 }
 

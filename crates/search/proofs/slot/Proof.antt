@@ -24,7 +24,7 @@ returns-3 : tie.Need-returns-3
 returns-3 c = end (omega arith) (omega arith) (some (omega (arith, c .before .wide .ensures, c .if3 .left)) (c .before .wide .ensures))
 
 returns-4 : tie.Need-returns-4
-returns-4 c = unused (omega arith) (c .if4 .taken) refl
+returns-4 c = unused (omega arith) (c .if4 .taken) (omega arith)
 
 level-bits-requires : tie.Need-level-bits-requires
 level-bits-requires c κs = search needs
