@@ -22,8 +22,9 @@ use Rattle.still.specs.Sound.{Sound}
 use Rattle.winners.specs.Winners.{pairAt, Winners}
 use Rattle.winners.proofs.Stored.{stored-pair, other-pair, total-stored}
 use Rattle.halving.specs.declared.End.{End}
-use Rattle.halving.specs.WonAt.{Won, EndAt, RoomFor}
-use Rattle.halving.specs.Between.{endOf, Taken}
+use Rattle.halving.specs.declared.Range.{Range}
+use Rattle.halving.specs.WonAt.{Won, WonAt, EndAt, Brackets, RoomFor}
+use Rattle.halving.specs.Between.{endOf, Chords, Taken}
 use Rattle.halving.proofs.Won.{gives-won}
 
 pub room-in : {n : ℕ} {bits error keep : List ℕ} → n ≤ 1024 → length bits ≡ 1024 → length error ≡ 1024 → length keep ≡ 1024 → RoomFor n bits error keep
@@ -74,18 +75,33 @@ sum-most f (suc n) h =
     let t = h n (omega arith) in
     (omega arith, omega arith)
 
+-- What a block's winner takes at most.
+pub won-most : {levels : List ℤ} {steps lengths : List ℕ} {n i b : ℕ} {bits error keep : List ℕ}
+    → Sound levels steps lengths n → i ≤ n → WonAt (blockAt levels steps lengths) i b bits error keep
+    → (k : ℕ) → k < i → (getD bits k 0 ≤ mostBits) × (getD error k 0 ≤ mostError)
+won-most {levels} {steps} {lengths} s l h k m =
+    let limits : Limits (blockAt levels steps lengths k) = block-limits (s .still .blocks k (omega arith)) (s .step-limits) (s .length-limits) in
+    let x = h .each k m .wins .attained in
+    (attained-bits (blockAt levels steps lengths k) limits x, attained-error (blockAt levels steps lengths k) limits x)
+
 pub end-most : {levels : List ℤ} {steps lengths : List ℕ} {n i : ℕ} {e : End} {bits error keep : List ℕ}
     → Sound levels steps lengths n → i ≤ n → EndAt (blockAt levels steps lengths) i e bits error keep
     → (e .bits .0 ≤ mostBits * i) × (e .error .0 ≤ mostError * i)
-end-most {levels} {steps} {lengths} {n} {i} {e} {bits} {error} s l h =
-    let t = sum-most (pairAt bits error) i most in
+end-most {i = i} {bits = bits} {error = error} s l h =
+    let t = sum-most (pairAt bits error) i (won-most s l (h .won)) in
     (omega (arith, h .bits-are, t .0), omega (arith, h .error-is, t .1))
-  where
-    most : (k : ℕ) → k < i → (getD bits k 0 ≤ mostBits) × (getD error k 0 ≤ mostError)
-    most k m =
-        let limits : Limits (blockAt levels steps lengths k) = block-limits (s .still .blocks k (omega arith)) (s .step-limits) (s .length-limits) in
-        let x = h .won .each k m .wins .attained in
-        (attained-bits (blockAt levels steps lengths k) limits x, attained-error (blockAt levels steps lengths k) limits x)
+
+pub chords-of : {levels : List ℤ} {steps lengths : List ℕ} {n budget : ℕ} {r : Range} {cb ce ck lb le lk : List ℕ}
+    → Sound levels steps lengths n → Brackets (blockAt levels steps lengths) n budget r cb ce ck lb le lk → RoomFor n cb ce ck → RoomFor n lb le lk
+    → Chords n cb ce lb le
+chords-of s k p q = record {
+  blocks = s .still .most;
+  few-room = p .bits-room;
+  more-room = p .error-room;
+  many-room = q .bits-room;
+  less-room = q .error-room;
+  bits-most = λ i l. won-most s (omega arith) (k .low .won) i l .0;
+}
 
 -- Numbers of another list are taken one by one.
 one-taken : (from to : List ℕ) (i : ℕ) → i < length to → ((k : ℕ) → k < i → getD to k 0 ≡ getD from k 0)

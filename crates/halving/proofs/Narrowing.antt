@@ -6,38 +6,15 @@ use Prim.Native.Nat.{ℕ, _-_, _≤_, _<_}
 use native.Mathlib.Omega.{arith}
 use Rattle.block.specs.Block.{Block}
 use Rattle.price.specs.Price.{Accepted}
-use Rattle.corners.specs.Price.{Wins}
-use Rattle.corners.specs.Still.{total, Attains}
-use Rattle.corners.proofs.Corners.{corner-best}
-use Rattle.corners.proofs.Winner.{wins-corner}
-use Rattle.corners.proofs.Sums.{total-wins}
-use Rattle.attained.specs.Attained.{Attained}
 use Rattle.winners.specs.Winners.{pairAt}
 use Rattle.halving.specs.declared.End.{End}
 use Rattle.halving.specs.declared.Range.{Range}
 use Rattle.halving.specs.WonAt.{EndAt, Brackets, RoomFor}
 use Rattle.halving.specs.Between.{AllBetween, Wide}
 
--- the still's pair at an end wins there
-end-wins : {B : ℕ → Block} {n : ℕ} {e : End} {bits error keep : List ℕ} → EndAt B n e bits error keep
-    → Wins (Attains (λ i. Attained (B i)) n) 1 (e .price) (total (pairAt bits error) n)
-end-wins {B} {n} {e} {bits} {error} h = total-wins (λ i. Attained (B i)) n 1 (e .price) (pairAt bits error) (λ i l. h .won .each i l .wins)
-
 module _ {B : ℕ → Block} {n budget : ℕ} {r : Range} {cb ce ck lb le lk : List ℕ} (k : Brackets B n budget r cb ce ck lb le lk) where
   pub brackets-wide : 1 < r .high .price - r .low .price → Wide r
-  brackets-wide l =
-      let p = end-wins (k .high) in
-      let q = end-wins (k .low) in record {
-        inside = omega arith;
-        more = omega (arith, k .fits, k .passes);
-        less = omega (
-          arith,
-          k .high .error-is,
-          k .low .error-is,
-          corner-best (wins-corner (omega arith) q) (total (pairAt cb ce) n) (p .attained)
-              (omega (arith, k .high .bits-are, k .low .bits-are, k .fits, k .passes)),
-        );
-      }
+  brackets-wide l = record { inside = omega arith; most = k .most }
 
   module _ {b : ℕ} (above : r .low .price < b) (below : b < r .high .price) where
     pub inside-accepted : Accepted 1 b

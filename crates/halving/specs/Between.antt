@@ -4,6 +4,8 @@ use mathlib.Core.List.{List}
 use Prim.Native.Nat.{ℕ, _+_, _≤_, _<_}
 use lib.ListN.{length, getD}
 use Rattle.block.specs.Block.{Block}
+use Rattle.block.specs.Limits.{mostBits}
+use Rattle.price.specs.Price.{mostOnBits}
 use Rattle.corners.specs.Pair.{Pair}
 use Rattle.corners.specs.Price.{Wins}
 use Rattle.attained.specs.Attained.{Attained}
@@ -36,11 +38,19 @@ pub record AllBetween (B : ℕ → Block) (n b : ℕ) (cb ce ck lb : List ℕ) :
   pub low-room : n ≤ length lb
   pub each : (i : ℕ) → i < n → Between (B i) b (pairAt cb ce i) (getD ck i 0) (getD lb i 0)
 
--- A range with a price inside: its low end has more bits and no more error.
+-- A range with a price inside.
 pub record Wide (r : Range) : Type 0 where
   pub inside : r .low .price + 1 < r .high .price
-  pub more : r .high .bits .0 < r .low .bits .0
-  pub less : r .low .error .0 ≤ r .high .error .0
+  pub most : r .high .price ≤ mostOnBits
+
+-- Four lists have a place for each of n blocks, and the third the bits of a pair.
+pub record Chords (n : ℕ) (cb ce lb le : List ℕ) : Type 0 where
+  pub blocks : n ≤ 1024
+  pub few-room : n ≤ length cb
+  pub more-room : n ≤ length ce
+  pub many-room : n ≤ length lb
+  pub less-room : n ≤ length le
+  pub bits-most : (i : ℕ) → i < n → getD lb i 0 ≤ mostBits
 
 -- The first n numbers of three lists are those of three others.
 pub record Taken (n : ℕ) (mb me mk tb te tk : List ℕ) : Type 0 where

@@ -5,17 +5,17 @@ use price::Bits;
 use price::Error;
 use price::Price;
 ghost use mathlib.Core.Path.{_≡_};
-ghost use Prim.Native.Nat.{_+_, _/_, _<_};
+ghost use Prim.Native.Nat.{_+_, _*_, _/_, _≤_, _<_};
 ghost use lib.ListN.{length};
 ghost use Rattle.block.specs.Level.{blockOf};
-ghost use Rattle.block.specs.Limits.{Levels, Steps};
-ghost use Rattle.price.specs.Price.{Accepted};
+ghost use Rattle.block.specs.Limits.{Levels, Steps, mostBits};
+ghost use Rattle.price.specs.Price.{Accepted, mostOnBits};
 ghost use Rattle.attained.specs.Attained.{blockAt};
 ghost use Rattle.still.specs.Sound.{Sound};
 ghost use Rattle.forward.specs.Given.{Room};
 ghost use Rattle.search.specs.BitTable.{Made};
 ghost use Rattle.halving.specs.WonAt.{Won, EndAt, Brackets, RoomFor};
-ghost use Rattle.halving.specs.Between.{pairIn, Between, AllBetween, Wide, Taken};
+ghost use Rattle.halving.specs.Between.{pairIn, Between, AllBetween, Wide, Chords, Taken};
 
 // An end of the range: a price on bits, and the bits and the error of all blocks' winners there.
 pub struct End {
@@ -147,24 +147,99 @@ fn decide_between(
     }
 }
 
-// A price inside the range: the slope from end to end, at which the winner lies farthest below their line; once a round the middle.
-fn middle(range: Range, turn: usize) -> u64
-    requires { ⌜ Wide range ⌝ }
-    ensures { λ r. ⌜ (range .low .price < r) × (r < range .high .price) ⌝ }
+// By how much x is above y.
+fn above(x: u64, y: u64) -> u64
+    ensures { λ r. ⌜ r ≤ x ⌝ }
 {
-    let low = range.low.price;
-    let high = range.high.price;
-    if turn == 0 {
-        return low + (high - low) / 2;
+    if y < x {
+        return x - y;
     }
-    let slope = (range.high.error.0 - range.low.error.0) / (range.low.bits.0 - range.high.bits.0);
-    if slope <= low {
+    0
+}
+
+// The bits that a block's chord, from its winner at the high end to that at the low, adds if it is as steep as a price.
+fn chord(price: u64, few: u64, more_error: u64, many: u64, less_error: u64) -> u64
+    requires { ⌜ (price ≤ mostOnBits) × (many ≤ mostBits) ⌝ }
+    ensures { λ r. ⌜ r ≤ mostBits ⌝ }
+{
+    let run = above(many, few);
+    if price * run <= above(more_error, less_error) {
+        return run;
+    }
+    0
+}
+
+// The bits that all chords as steep as a price add.
+fn chords(price: u64, n: usize, cb: &[u64], ce: &[u64], lb: &[u64], le: &[u64]) -> u64
+    requires { ⌜ price ≤ mostOnBits ⌝ }
+    requires { ⌜ Chords n (now cb) (now ce) (now lb) (now le) ⌝ }
+    ensures { λ r. ⌜ r ≤ mostBits * n ⌝ }
+{
+    let mut bits = 0u64;
+    let mut i = 0;
+    while i < n {
+        bits += chord(price, cb[i], ce[i], lb[i], le[i]);
+        i += 1;
+    }
+    bits
+}
+
+// The number inside the range that is nearest to x.
+fn within(x: u64, low: u64, high: u64) -> u64
+    requires { ⌜ low + 1 < high ⌝ }
+    ensures { λ r. ⌜ (low < r) × (r < high) ⌝ }
+{
+    if x <= low {
         return low + 1;
     }
-    if slope >= high {
+    if high <= x {
         return high - 1;
     }
-    slope
+    x
+}
+
+// The price inside the range at which the chords would meet the budget. No chord is steeper than all errors together.
+fn meet(range: Range, budget: u64, n: usize, cb: &[u64], ce: &[u64], lb: &[u64], le: &[u64]) -> u64
+    requires { ⌜ Wide range ⌝ }
+    requires { ⌜ Chords n (now cb) (now ce) (now lb) (now le) ⌝ }
+    ensures { λ r. ⌜ (range .low .price < r) × (r < range .high .price) ⌝ }
+{
+    let room = above(budget, range.high.bits.0);
+    let low = range.low.price;
+    let high = range.high.price;
+    let fall = above(range.high.error.0, range.low.error.0);
+    let mut passes = low;
+    let mut fits = within(fall, low, high);
+    while 1 < fits - passes {
+        let price = passes + (fits - passes) / 2;
+        if chords(price, n, cb, ce, lb, le) <= room {
+            fits = price;
+        } else {
+            passes = price;
+        }
+    }
+    fits
+}
+
+// A price inside the range: where the chords meet the budget; once a round the middle.
+fn inside(
+    range: Range,
+    turn: usize,
+    budget: u64,
+    n: usize,
+    cb: &[u64],
+    ce: &[u64],
+    lb: &[u64],
+    le: &[u64],
+) -> u64
+    requires { ⌜ Wide range ⌝ }
+    requires { ⌜ Chords n (now cb) (now ce) (now lb) (now le) ⌝ }
+    ensures { λ r. ⌜ (range .low .price < r) × (r < range .high .price) ⌝ }
+{
+    if turn == 0 {
+        return range.low.price + (range.high.price - range.low.price) / 2;
+    }
+    meet(range, budget, n, cb, ce, lb, le)
 }
 
 // Copies the numbers of the first n blocks.
@@ -220,9 +295,9 @@ pub fn bracket(
     let mut range = given;
     let mut turn = 1;
     while range.high.price - range.low.price > 1 {
-        let price = middle(range, turn);
+        let price = inside(range, turn, budget, n, cb, ce, lb, le);
         turn = (turn + 1) % ROUND;
-        let inside = decide_between(
+        let between = decide_between(
             levels,
             steps,
             lengths,
@@ -237,12 +312,12 @@ pub fn bracket(
             &mut me,
             &mut mk,
         );
-        if inside.bits.0 <= budget {
+        if between.bits.0 <= budget {
             take_over(n, &mb, &me, &mk, cb, ce, ck);
-            range.high = inside;
+            range.high = between;
         } else {
             take_over(n, &mb, &me, &mk, lb, le, lk);
-            range.low = inside;
+            range.low = between;
         }
     }
     range

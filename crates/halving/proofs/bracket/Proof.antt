@@ -7,7 +7,7 @@ use borrow.Author.Needs.{needs}
 use lib.ListN.{length}
 use Rattle.attained.specs.Attained.{blockAt}
 use Rattle.halving.specs.WonAt.{Brackets, RoomFor}
-use Rattle.halving.proofs.Ends.{room-in, room-kept, end-taken}
+use Rattle.halving.proofs.Ends.{room-in, room-kept, chords-of, end-taken}
 use Rattle.halving.proofs.Narrowing.{brackets-wide, inside-accepted, inside-between, high-moves, low-moves}
 use Rattle.halving.proofs.bracket.Statement.{statement}
 use Rattle.halving.proofs.bracket.Tie as tie
@@ -24,11 +24,11 @@ abbrev μ-loop : tie.MeasureT-loop
     range .high .price - range .low .price
 
 -- the price of a turn from its winners, and what it starts with
-abbrev priced : tie.After-decide-between Inv-loop μ-loop → tie.After-middle Inv-loop μ-loop
+abbrev priced : tie.After-decide-between Inv-loop μ-loop → tie.After-inside Inv-loop μ-loop
 priced d = d .before .before .before .before .before .before .before .before .before
 
-abbrev turn : tie.After-middle Inv-loop μ-loop → tie.At-loop Inv-loop μ-loop
-turn m = m .before .before .before
+abbrev turn : tie.After-inside Inv-loop μ-loop → tie.At-loop Inv-loop μ-loop
+turn m = m .before .before .before .before .before .before .before
 
 abbrev start : tie.At-loop Inv-loop μ-loop → tie.Start Inv-loop μ-loop
 start t = t .before .before .before .before .before .before .before .before .before .before .before .before
@@ -60,8 +60,11 @@ loop-holds c =
 sub-if1 : tie.Need-sub-if1 Inv-loop μ-loop
 sub-if1 c = omega (arith, c .before .loop .inv .0 .rises)
 
-middle-requires : tie.Need-middle-requires Inv-loop μ-loop
-middle-requires c κs = brackets-wide (c .before .before .loop .inv .0) (c .if1 .taken)
+inside-requires : tie.Need-inside-requires Inv-loop μ-loop
+inside-requires c κs =
+    let t = c .before .before .before .before .before .before in
+    let i = t .loop .inv in
+    (brackets-wide (i .0) (c .before .before .before .before .if1 .taken), chords-of (start t .pre .0) (i .0) (i .1) (i .2))
 
 add-turn : tie.Need-add-turn Inv-loop μ-loop
 add-turn c = search needs
@@ -88,9 +91,9 @@ decide-between-requires c κs =
       (
         t .before .before .bit-table .ensures,
         (
-          inside-accepted (i .0) (m .middle .ensures .0) (m .middle .ensures .1),
+          inside-accepted (i .0) (m .inside .ensures .0) (m .inside .ensures .1),
           (
-            inside-between (i .0) (m .middle .ensures .0) (m .middle .ensures .1) (i .1) (i .2),
+            inside-between (i .0) (m .inside .ensures .0) (m .inside .ensures .1) (i .1) (i .2),
             room-in (p .still .most) (i .3) (i .4) (i .5),
           ),
         ),
@@ -118,7 +121,7 @@ take-over-requires c κs =
 loop-less : tie.Need-loop-less Inv-loop μ-loop
 loop-less c =
     let d = c .before .before .before .before .before .before .before .before .before .before .before .before .before .before .before .before .before .before in
-    omega (arith, priced d .middle .ensures, d .decide-between .ensures .0)
+    omega (arith, priced d .inside .ensures, d .decide-between .ensures .0)
 
 loop-again : tie.Need-loop-again Inv-loop μ-loop
 loop-again c =
@@ -127,7 +130,7 @@ loop-again c =
     let i = turn m .loop .inv in
     let h = d .decide-between .kept .1 .1 .1 .1 .1 .1 .1 .1 .1 .1 in
     let k = c .before .before .before .before .before .before .take-over .kept .1 .1 .1 .1 in (
-      high-moves (i .0) (m .middle .ensures .0) (m .middle .ensures .1) (d .decide-between .ensures .0) (end-taken (c .before .before .before .before .before .before .take-over .ensures) (d .decide-between .ensures .1)) (c .before .before .before .before .before .before .before .before .before .before .before .before .before .if2 .taken),
+      high-moves (i .0) (m .inside .ensures .0) (m .inside .ensures .1) (d .decide-between .ensures .0) (end-taken (c .before .before .before .before .before .before .take-over .ensures) (d .decide-between .ensures .1)) (c .before .before .before .before .before .before .before .before .before .before .before .before .before .if2 .taken),
       room-kept (i .1) (k .0) (k .1 .0) (k .1 .1 .0),
       i .2,
       omega (arith, i .3, h .0),
@@ -163,7 +166,7 @@ take-over-requires-2 c κs =
 loop-less-2 : tie.Need-loop-less-2 Inv-loop μ-loop
 loop-less-2 c =
     let d = c .before .before .before .before .before .before .before .before .before .before .before .before .before .before .before .before .before .before in
-    omega (arith, priced d .middle .ensures, d .decide-between .ensures .0)
+    omega (arith, priced d .inside .ensures, d .decide-between .ensures .0)
 
 loop-again-2 : tie.Need-loop-again-2 Inv-loop μ-loop
 loop-again-2 c =
@@ -172,7 +175,7 @@ loop-again-2 c =
     let i = turn m .loop .inv in
     let h = d .decide-between .kept .1 .1 .1 .1 .1 .1 .1 .1 .1 .1 in
     let k = c .before .before .before .before .before .before .take-over2 .kept .1 .1 .1 .1 in (
-      low-moves (i .0) (m .middle .ensures .0) (m .middle .ensures .1) (d .decide-between .ensures .0) (end-taken (c .before .before .before .before .before .before .take-over2 .ensures) (d .decide-between .ensures .1)) (omega (arith, c .before .before .before .before .before .before .before .before .before .before .before .before .before .if2 .left)),
+      low-moves (i .0) (m .inside .ensures .0) (m .inside .ensures .1) (d .decide-between .ensures .0) (end-taken (c .before .before .before .before .before .before .take-over2 .ensures) (d .decide-between .ensures .1)) (omega (arith, c .before .before .before .before .before .before .before .before .before .before .before .before .before .if2 .left)),
       i .1,
       room-kept (i .2) (k .0) (k .1 .0) (k .1 .1 .0),
       omega (arith, i .3, h .0),
@@ -218,7 +221,7 @@ bracket-spec =
     bit-table-requires
     loop-holds
     sub-if1
-    middle-requires
+    inside-requires
     add-turn
     slice-aggregate-decide-between
     slice-aggregate-decide-between-2
