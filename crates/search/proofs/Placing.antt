@@ -1,14 +1,18 @@
--- The places of the levels that are not 0: one more position is stored, and counted if its level is not 0.
+-- The places of the levels that are not 0: one more position is stored, and counted if its level is not 0; a range
+-- of zeros has none.
 -- Assumes nothing.
-use mathlib.Core.Path.{_≡_, sym, subst, ap, _∙_}
+use borrow.Author.Tests.{eqb-true, not-false}
+use mathlib.Core.Path.{_≡_, refl, sym, subst, ap, _∙_}
+use mathlib.Core.Bool.{Bool, true, false, not, _||_}
 use mathlib.Core.List.{List}
 use Prim.Native.Nat.{ℕ, _+_, _≤_, _<_}
 use native.Mathlib.Decide.{decLt}
 use native.Mathlib.Omega.{arith}
+use lib.Dec.{eqb}
 use lib.ListN.{length, getD, set, length-set}
 use lib.Seq.{getD-set-same, getD-set-other}
 use Rattle.forward.specs.Given.{Met}
-use Rattle.search.specs.Gathering.{Next, Next.stay, Next.more, Placed}
+use Rattle.search.specs.Gathering.{Next, Next.stay, Next.more, Zeros, Placed}
 
 module _ {level : ℕ → ℕ} where
   pub placed-start : (place : List ℕ) → length place ≡ 64 → Placed level 0 1 (set place 0 0)
@@ -87,5 +91,40 @@ module _ {level : ℕ → ℕ} where
     placed-next (stay z e) = rw e (stays z)
     placed-next (more z e) = rw e (grows z)
 
-  pub placed-end : {place : List ℕ} {m k : ℕ} → Placed level m k place → k ≤ 64 → 64 ≤ k → Placed level m 64 place
-  placed-end {k = k} P h g = let e : k ≡ 64 = omega arith in rw e at P
+  pub placed-same : {place : List ℕ} {m k n : ℕ} → Placed level m k place → k ≤ n → n ≤ k → Placed level m n place
+  placed-same {k = k} {n = n} P h g = let e : k ≡ n = omega arith in rw e at P
+
+  pub zeros-none : (i : ℕ) → Zeros level i i
+  zeros-none i = record { each = λ k p q. absurd (omega arith) }
+
+  zeros-more : {i j : ℕ} → Zeros level i j → level j ≡ 0 → Zeros level i (j + 1)
+  zeros-more {i} {j} Z z =
+      record {
+        each =
+            λ k p q. elim (decLt k j) [
+              | yes g ↦ Z .each k p g
+              | no g ↦ let e : k ≡ j = omega arith in ap level e ∙ z
+            ];
+      }
+
+  -- a flag that is false only while the levels below j are 0, joined with the test of what is read at j
+  pub flag-more : {i j : ℕ} (flag : Bool) (n : ℕ) → (flag ≡ false → Zeros level i j) → (n ≡ 0 → level j ≡ 0) → flag || not (eqb n 0) ≡ false → Zeros level i (j + 1)
+  flag-more true n f t h = absurd (let z : _≡_ {A = ℕ} 0 1 = cc in omega arith)
+  flag-more false n f t h = zeros-more (f refl) (t (eqb-true n 0 (not-false (eqb n 0) h)))
+
+  -- no place is between k and n if the levels there are 0
+  pub placed-zeros : {place : List ℕ} {m k n : ℕ} → Placed level m k place → Zeros level k n → k ≤ n → Placed level m n place
+  placed-zeros {k = k} P Z h =
+      record {
+        long = P .long;
+        most = omega (arith, P .most);
+        start = P .start;
+        rises = P .rises;
+        under = λ i p. omega (arith, P .under i p);
+        held = P .held;
+        every =
+            λ x p q l. elim (decLt x k) [
+              | yes g ↦ P .every x p g l
+              | no g ↦ absurd (omega (arith, Z .each x (omega arith) q))
+            ];
+      }

@@ -26,6 +26,10 @@ in-range : (z : ℤ) → natAbs z ≤ 1023 → SFits w16 z
 in-range (pos n) h = record { sfits = omega arith }
 in-range (negsuc n) h = record { sfits = omega arith }
 
+pub zero-level : {levels : List ℤ} (k : ℕ) → Levels levels → ofZ w16 (getD levels k (pos 0)) ≡ 0 → acLevel levels k ≡ 0
+zero-level zero l e = refl
+zero-level {levels} (suc k) l e = zero-bits (in-range (getD levels (suc k) (pos 0)) (l .most (suc k))) e
+
 -- the magnitude n of what is read at a position from 1 on
 pub level-at : {levels : List ℤ} (k : ℕ) {n : ℕ} → Levels levels → 0 < k → n ≡ natAbs (toZ w16 (ofZ w16 (getD levels k (pos 0)))) → (n ≡ acLevel levels k) × (n ≤ 1023)
 level-at zero l h e = absurd (omega arith)

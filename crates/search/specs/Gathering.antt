@@ -22,6 +22,10 @@ pub data Next (n m r : ℕ) : Type 0 where
   stay : n ≡ 0 → r ≡ m → Next n m r
   more : 0 < n → r ≡ m + 1 → Next n m r
 
+-- the levels from one position up to another are 0
+pub record Zeros (level : ℕ → ℕ) (from to : ℕ) : Type 0 where
+  pub each : (k : ℕ) → from ≤ k → k < to → level k ≡ 0
+
 -- the places of the levels that are not 0, of those below k
 pub record Placed (level : ℕ → ℕ) (m k : ℕ) (place : List ℕ) : Type 0 where
   pub long : length place ≡ 64

@@ -11,7 +11,8 @@ use forward::search;
 use price::Error;
 use price::Price;
 ghost use mathlib.Core.Path.{_≡_};
-ghost use Prim.Native.Nat.{_+_, _-_, _≤_, _<_};
+ghost use mathlib.Core.Bool.{false};
+ghost use Prim.Native.Nat.{_+_, _*_, _-_, _≤_, _<_};
 ghost use lib.IntN.{natAbs};
 ghost use lib.ListN.{length, getD};
 ghost use Rattle.block.specs.Level.{acLevel};
@@ -20,7 +21,7 @@ ghost use Rattle.price.specs.Price.{Accepted};
 ghost use Rattle.forward.specs.Given.{isFull, Room};
 ghost use Rattle.search.specs.BitTable.{Slot, Made};
 ghost use Rattle.search.specs.Ready.{GatheredFrom, Ready, Settles};
-ghost use Rattle.search.specs.Gathering.{LevelEntry, Filled, Next, Placed, Weighted};
+ghost use Rattle.search.specs.Gathering.{LevelEntry, Filled, Next, Zeros, Placed, Weighted};
 ghost use Rattle.search.specs.Sweeping.{Lesser, Greater, Widened, Counted, Swept};
 
 // How many entries the table of bits has: size * 64 + run, and the end of block as row 0.
@@ -199,20 +200,65 @@ fn next_of(v: i16, m: usize) -> usize
     m + 1
 }
 
-// The places of the levels that are not 0, from 1 on, and how many there are. Each place is stored, and the next one
-// stored over it if its level is 0: this has no branch to guess wrong.
+// Whether one of the eight levels from a position on is not 0. All eight are looked at, with no way out between, so that
+// the compiler can take them at once.
+fn any_level(levels: &[i16], from: usize) -> bool
+    requires { ⌜ Levels (now levels) ⌝ }
+    requires { ⌜ from + 8 ≤ 64 ⌝ }
+    ensures { λ r. ⌜ (r ≡ false → Zeros (acLevel (now (levels .entry))) from (from + 8)) ⌝ }
+{
+    let mut any = false;
+    let mut j = from;
+    while j < from + 8 {
+        any = any | (levels[j] != 0);
+        j += 1;
+    }
+    any
+}
+
+// The places from one position up to another, behind the m before them, and how many there are then. Each place is
+// stored, and the next one stored over it if its level is 0: this has no branch to guess wrong.
+fn place_range(levels: &[i16], place: &mut [usize], from: usize, to: usize, m: usize) -> usize
+    requires { ⌜ Levels (now levels) ⌝ }
+    requires { ⌜ (0 < from) × (from ≤ to) × (to ≤ 64) ⌝ }
+    requires { ⌜ Placed (acLevel (now levels)) m from (now place) ⌝ }
+    ensures { λ r. ⌜ Placed (acLevel (now (levels .entry))) r to (now (place .exit)) ⌝ }
+{
+    let mut n = m;
+    let mut k = from;
+    while k < to {
+        place[n + 1] = k;
+        n = next_of(levels[k], n);
+        k += 1;
+    }
+    n
+}
+
+// The places in group g of eight positions. A group of zeros, as many in a photograph are, is left out.
+fn place_group(levels: &[i16], place: &mut [usize], g: usize, m: usize) -> usize
+    requires { ⌜ Levels (now levels) ⌝ }
+    requires { ⌜ (0 < g) × (g < 8) ⌝ }
+    requires { ⌜ Placed (acLevel (now levels)) m (8 * g) (now place) ⌝ }
+    ensures { λ r. ⌜ Placed (acLevel (now (levels .entry))) r (8 * g + 8) (now (place .exit)) ⌝ }
+{
+    if any_level(levels, 8 * g) {
+        return place_range(levels, place, 8 * g, 8 * g + 8, m);
+    }
+    m
+}
+
+// The places of the levels that are not 0, from 1 on, and how many there are: those in DC's group, then in the others.
 fn places(levels: &[i16], place: &mut [usize]) -> usize
     requires { ⌜ Levels (now levels) ⌝ }
     requires { ⌜ length (now place) ≡ 64 ⌝ }
     ensures { λ r. ⌜ Placed (acLevel (now (levels .entry))) r 64 (now (place .exit)) ⌝ }
 {
     place[0] = 0;
-    let mut m = 0;
-    let mut k = 1;
-    while k < 64 {
-        place[m + 1] = k;
-        m = next_of(levels[k], m);
-        k += 1;
+    let mut m = place_range(levels, place, 1, 8, 0);
+    let mut g = 1;
+    while g < 8 {
+        m = place_group(levels, place, g, m);
+        g += 1;
     }
     m
 }

@@ -1,59 +1,50 @@
--- `search::places` meets its contract: the places of the levels passed that are not 0 stand in the first m + 1 entries.
+-- `search::places` meets its contract: the places in the groups passed stand in the first m + 1 entries.
 -- Assumes nothing.
-use Prim.Native.Nat.{_-_, _≤_, _<_}
+use Prim.Native.Nat.{_*_, _-_, _≤_, _<_}
 use native.Mathlib.Omega.{arith}
 use Rattle.block.specs.Level.{acLevel}
 use Rattle.search.specs.Gathering.{Placed}
-use Rattle.search.proofs.Reading.{next-level}
-use Rattle.search.proofs.Placing.{placed-start, placed-next, placed-end}
+use Rattle.search.proofs.Placing.{placed-start, placed-same}
 use Rattle.search.proofs.places.Statement.{statement}
 use Rattle.search.proofs.places.Tie as tie
 
 abbrev Inv-loop : tie.InvT-loop
-Inv-loop levels place₀ m₀ k₀ place m k = (0 < k) × (k ≤ 64) × Placed (acLevel levels) m k place
+Inv-loop levels place₀ m₀ g₀ place m g = (0 < g) × (g ≤ 8) × Placed (acLevel levels) m (8 * g) place
 
 abbrev μ-loop : tie.MeasureT-loop
-μ-loop levels place₀ m₀ k₀ place m k = 64 - k
+μ-loop levels place₀ m₀ g₀ place m g = 8 - g
 
 slice-write-place : tie.Need-slice-write-place Inv-loop μ-loop
 slice-write-place c = omega (arith, c .before .pre .1)
 
+place-range-requires : tie.Need-place-range-requires Inv-loop μ-loop
+place-range-requires c κs =
+    let s = c .before .before in
+    (s .pre .0, ((omega arith, omega arith, omega arith), placed-start (s .args .place .now) (s .pre .1)))
+
 loop-holds : tie.Need-loop-holds Inv-loop μ-loop
-loop-holds c = (omega arith, omega arith, placed-start (c .before .args .place .now) (c .before .pre .1))
+loop-holds c = (omega arith, omega arith, c .before .before .place-range .ensures)
 
-add-place : tie.Need-add-place Inv-loop μ-loop
-add-place c = omega (arith, c .before .loop .inv .2 .most)
+place-group-requires : tie.Need-place-group-requires Inv-loop μ-loop
+place-group-requires c κs =
+    let s = c .before .before .before .before .before .before .before .before in
+    let v = c .before .before .loop .inv in
+    (s .pre .0, ((v .0, c .before .loop-test .taken), v .2))
 
-mul-place : tie.Need-mul-place Inv-loop μ-loop
-mul-place c = omega (arith, c .before .loop .inv .2 .most)
-
-slice-write-place-2 : tie.Need-slice-write-place-2 Inv-loop μ-loop
-slice-write-place-2 c = omega (arith, c .before .loop .inv .2 .most, c .before .loop .inv .2 .long)
-
-mul-next-of : tie.Need-mul-next-of Inv-loop μ-loop
-mul-next-of c = omega arith
-
-shared-slice-copy-out-next-of : tie.Need-shared-slice-copy-out-next-of Inv-loop μ-loop
-shared-slice-copy-out-next-of c = omega (arith, c .before .before .before .pre .0 .count)
-
-next-of-requires : tie.Need-next-of-requires Inv-loop μ-loop
-next-of-requires c κs = omega (arith, c .before .before .loop .inv .2 .most, c .before .loop-test .taken)
-
-add-k : tie.Need-add-k Inv-loop μ-loop
-add-k c = omega (arith, c .before .before .loop-test .taken)
+add-g : tie.Need-add-g Inv-loop μ-loop
+add-g c = omega arith
 
 loop-less : tie.Need-loop-less Inv-loop μ-loop
-loop-less c = omega (arith, c .before .before .loop-test .taken)
+loop-less c = omega (arith, c .before .before .before .before .loop-test .taken)
 
 loop-again : tie.Need-loop-again Inv-loop μ-loop
-loop-again c =
-    (omega arith, omega (arith, c .before .before .loop-test .taken), placed-next (c .before .before .before .loop .inv .2) (c .before .before .loop-test .taken) (next-level _ (c .before .before .before .before .before .pre .0) (c .before .before .before .loop .inv .0) (c .next-of .ensures)))
+loop-again c = (omega arith, omega arith, placed-same (c .before .before .place-group .ensures) (omega arith) (omega arith))
 
 same-length : tie.Need-same-length Inv-loop μ-loop
-same-length c = omega (arith, c .before .loop .inv .2 .long, c .before .before .before .pre .1)
+same-length c = omega (arith, c .before .loop .inv .2 .long, c .before .before .before .before .before .before .before .pre .1)
 
 returns : tie.Need-returns Inv-loop μ-loop
-returns c = placed-end (c .before .loop .inv .2) (c .before .loop .inv .1) (c .loop-test .left)
+returns c = placed-same (c .before .loop .inv .2) (omega arith) (omega arith)
 
 pub places-spec : {M : Type 1} → statement M
 places-spec =
@@ -62,14 +53,10 @@ places-spec =
     Inv-loop
     μ-loop
     slice-write-place
+    place-range-requires
     loop-holds
-    add-place
-    mul-place
-    slice-write-place-2
-    mul-next-of
-    shared-slice-copy-out-next-of
-    next-of-requires
-    add-k
+    place-group-requires
+    add-g
     loop-less
     loop-again
     same-length
