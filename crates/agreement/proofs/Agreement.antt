@@ -1,7 +1,7 @@
 -- Every accepted price gives an entry of the list: the point of the price job stands there, its kept number included.
 -- Assumes nothing.
-use mathlib.Core.Path.{_≡_, refl, ap, sym, subst, _∙_}
-use mathlib.Core.List.{List, [], _∷_, _++_, List·Memᴰ, List·Memᴰ·append-cases, List·Memᴰ·eq-of-singleton, List·Memᴰ·not-nil}
+use mathlib.Core.Path.{_≡_, refl, sym, subst}
+use mathlib.Core.List.{List, [], _∷_, List·Memᴰ, List·Memᴰ·append-cases, List·Memᴰ·eq-of-singleton, List·Memᴰ·not-nil}
 use mathlib.Core.Logic.{_⊎_, inl, inr}
 use Prim.Native.Nat.{ℕ, zero, suc, _+_, _*_, _<_}
 use native.Mathlib.Omega.{arith}
@@ -10,7 +10,7 @@ use Rattle.block.specs.Block.{Block}
 use Rattle.price.specs.Price.{Accepted}
 use Rattle.corners.specs.Pair.{Pair}
 use Rattle.corners.specs.Price.{Wins}
-use Rattle.corners.specs.Still.{total, Attains}
+use Rattle.corners.specs.Still.{Attains}
 use Rattle.corners.specs.Listed.{CornerList, entry, entries}
 use Rattle.corners.proofs.Winner.{wins-corner}
 use Rattle.corners.proofs.Sums.{total-wins}

@@ -1,7 +1,7 @@
 -- There is at most one first block without a codable choice.
 -- Assumes nothing.
 use mathlib.Core.Path.{_≡_}
-use Prim.Native.Nat.{ℕ, suc, _≤_, _<_}
+use Prim.Native.Nat.{ℕ, _≤_}
 use native.Mathlib.Nat.{le-antisymm}
 use native.Mathlib.Decide.{decLe}
 use native.Mathlib.Omega.{arith}

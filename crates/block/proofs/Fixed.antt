@@ -1,12 +1,10 @@
 -- The rules of the fixed tables, each by one test that antt computes: a length is at most 16, and it is there
 -- exactly for end of block, sixteen zeros and sizes 1 to 10; the zigzag order meets every place.
 -- Assumes nothing.
-use mathlib.Core.Path.{_≡_}
 use mathlib.Core.Bool.{Bool, true, false, _&&_, _||_, not}
-use mathlib.Core.List.{List, [], _∷_}
-use Prim.Native.Nat.{ℕ, zero, suc, _%_, _≤_, _<_}
+use Prim.Native.Nat.{ℕ, suc, _%_, _≤_, _<_}
 use lib.Dec.{T, eqb, leb, ltb, leb→le}
-use lib.ListN.{getD, length}
+use lib.ListN.{getD}
 use Rattle.block.specs.First.{firstFrom, firstBelow}
 use Rattle.block.specs.K5.{k5}
 use Rattle.block.specs.Zigzag.{zigzag}

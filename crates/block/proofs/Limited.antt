@@ -5,8 +5,7 @@ use Prim.Native.Nat.{ℕ, _*_, _≤_}
 use native.Mathlib.Nat.{mul-le-mul}
 use native.Mathlib.Omega.{arith}
 use lib.IntN.{ℤ}
-use lib.ListN.{getD}
-use Rattle.block.specs.Level.{acLevel, sizeOf, squaredError, blockOf}
+use Rattle.block.specs.Level.{acLevel, squaredError, blockOf}
 use Rattle.block.specs.Limits.{Levels, Steps, Lengths, Limits, mostLevelError}
 use Rattle.block.proofs.Size.{size-most}
 

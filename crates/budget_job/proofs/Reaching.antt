@@ -1,8 +1,8 @@
 -- What the budget job's parts come to: nothing fits, everything does, or the corner that the walk ends at.
 -- Assumes nothing.
-use mathlib.Core.Path.{_≡_, refl, ap, sym, subst, _∙_}
+use mathlib.Core.Path.{_≡_, refl, ap, _∙_}
 use mathlib.Core.List.{List}
-use Prim.Native.Nat.{ℕ, _+_, _*_, _≤_, _<_}
+use Prim.Native.Nat.{ℕ, _≤_, _<_}
 use native.Mathlib.Decide.{decLe}
 use native.Mathlib.Omega.{arith}
 use lib.IntN.{ℤ}
@@ -13,11 +13,8 @@ use Rattle.block.proofs.Limited.{block-limits}
 use Rattle.price.specs.Price.{mostOnBits}
 use Rattle.price.specs.declared.Bits.{Bits}
 use Rattle.price.specs.declared.Error.{Error}
-use Rattle.corners.specs.Pair.{Pair}
 use Rattle.corners.specs.Price.{Wins, Least}
 use Rattle.corners.specs.Still.{total, Attains}
-use Rattle.corners.specs.Fits.{Fits, LeastBits}
-use Rattle.corners.proofs.Corners.{pair-path}
 use Rattle.corners.proofs.Sums.{total-wins}
 use Rattle.corners.proofs.Dearest.{dearest-fewest, least-bits}
 use Rattle.corners.proofs.Budget.{free-fits}
@@ -25,15 +22,15 @@ use Rattle.attained.specs.Attained.{blockAt, Attained, Smallest}
 use Rattle.attained.proofs.Winning.{gives-wins, gives-smallest, wins-gives, attained-error}
 use Rattle.answers.specs.declared.Point.{Point}
 use Rattle.answers.specs.declared.PointAnswer.{PointAnswer}
-use Rattle.answers.specs.Said.{saidPoint, point, refused}
+use Rattle.answers.specs.Said.{saidPoint, refused}
 use Rattle.still.specs.Sound.{Sound}
 use Rattle.winners.specs.Winners.{pairAt, Winners}
 use Rattle.halving.specs.declared.End.{End}
 use Rattle.halving.specs.declared.Range.{Range}
-use Rattle.halving.specs.WonAt.{Won, WonAt, EndAt, Brackets, RoomFor}
+use Rattle.halving.specs.WonAt.{WonAt, EndAt, Brackets, RoomFor}
 use Rattle.merge.specs.CornerChoice.{CornerChoice}
 use Rattle.merge.specs.Standing.{arrays, Sums}
-use Rattle.merge.specs.SettingOut.{Ends, SetOut}
+use Rattle.merge.specs.SettingOut.{SetOut}
 use Rattle.fitting.specs.Fitting.{Walks, FitsThere}
 use Rattle.budget_job.specs.BudgetJob.{Fitted, passes, fits}
 use Rattle.budget_job.specs.Fitting.{Answered, Reaches}

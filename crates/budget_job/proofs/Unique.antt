@@ -1,25 +1,19 @@
 -- The budget job's promise settles its answer and the keep numbers.
 -- Assumes nothing.
-use mathlib.Core.Path.{_≡_, refl, sym, ap, _∙_}
+use mathlib.Core.Path.{_≡_, sym, _∙_}
 use mathlib.Core.List.{List}
-use Prim.Native.Nat.{ℕ, _/_, _≤_, _<_}
+use Prim.Native.Nat.{ℕ}
 use native.Mathlib.Omega.{arith}
 use lib.IntN.{ℤ}
-use lib.ListN.{length, getD}
+use lib.ListN.{length}
 use lib.Seq.{ext-getD}
 use Rattle.block.specs.Block.{Block}
-use Rattle.corners.specs.Pair.{Pair}
-use Rattle.corners.specs.Still.{Attains}
 use Rattle.corners.proofs.Unique.{fits-unique, least-bits-unique}
 use Rattle.corners.proofs.Dearest.{fits-least}
-use Rattle.attained.specs.Attained.{blockAt, Attained}
 use Rattle.attained.proofs.Uncodable.{uncodable-unique}
 use Rattle.answers.specs.declared.PointAnswer.{PointAnswer}
-use Rattle.answers.specs.Said.{fine, saidPoint, point, refused}
 use Rattle.answers.proofs.Same.{point-same}
-use Rattle.still.specs.Refusals.{budgetVerdict}
 use Rattle.still.proofs.Fine.{budget-verdict-fine}
-use Rattle.kept.specs.Kept.{keptOf}
 use Rattle.settled.proofs.OneChoice.{choice-attains, choice-unique, attained-codable}
 use Rattle.budget_job.specs.BudgetJob.{Fitted, uncodable, passes, fits, BudgetMeets, refuses, answers}
 

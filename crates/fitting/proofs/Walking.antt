@@ -1,6 +1,6 @@
 -- The walk stops where the next corner passes the budget, and goes on to it where it fits.
 -- Assumes nothing.
-use mathlib.Core.Path.{_≡_, refl, ap, sym, subst, _∙_}
+use mathlib.Core.Path.{_≡_, refl, ap, sym, subst}
 use mathlib.Core.List.{List}
 use Prim.Native.Nat.{ℕ, zero, suc, _+_, _*_, _≤_, _<_}
 use native.Mathlib.Decide.{ℕ-discrete}
@@ -10,19 +10,15 @@ use lib.ListN.{getD}
 use Rattle.block.specs.Block.{Block}
 use Rattle.block.specs.Limits.{mostBits, mostError}
 use Rattle.corners.specs.Pair.{Pair}
-use Rattle.corners.specs.Still.{total, Attains}
-use Rattle.corners.specs.Fits.{Fits}
 use Rattle.corners.specs.Merging.{onward, growth}
 use Rattle.corners.proofs.Sums.{total-same}
-use Rattle.corners.proofs.Moves.{stands-run}
 use Rattle.corners.proofs.Merge.{merge-steep}
 use Rattle.corners.proofs.Passing.{onward-bits, passing-fits}
 use Rattle.attained.specs.Attained.{Attained}
 use Rattle.answers.specs.declared.Point.{Point}
 use Rattle.steepest.specs.Slope.{Slope, Top}
 use Rattle.steepest.proofs.Root.{root-top}
-use Rattle.winners.specs.Winners.{pairAt}
-use Rattle.merge.specs.Standing.{Arrays, at, cornerAt, Stationed, Standing, Sums}
+use Rattle.merge.specs.Standing.{Arrays, at, cornerAt, Stationed}
 use Rattle.merge.specs.Passing.{Leaving, Advanced}
 use Rattle.merge.proofs.Station.{course}
 use Rattle.fitting.specs.Fitting.{Walks, FitsThere}

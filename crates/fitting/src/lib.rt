@@ -6,7 +6,6 @@ ghost use lib.ListN.{getD};
 ghost use Rattle.block.specs.Limits.{mostBits, mostError};
 ghost use Rattle.corners.specs.Merging.{growth};
 ghost use Rattle.attained.specs.Attained.{blockAt};
-ghost use Rattle.forward.specs.Given.{Room};
 ghost use Rattle.steepest.specs.Slope.{Slopes};
 ghost use Rattle.merge.specs.Standing.{arrays};
 ghost use Rattle.merge.specs.Finding.{Task};

@@ -7,13 +7,13 @@ use native.Mathlib.Nat.{mul-le-mul-left}
 use native.Mathlib.Decide.{decLt}
 use native.Mathlib.Omega.{arith}
 use borrow.Author.Tests.{lt-ltb, le-ltb, ne-eqb}
-use lib.Dec.{eqb, ltb}
-use lib.ListN.{length, getD}
+use lib.Dec.{ltb}
+use lib.ListN.{getD}
 use Rattle.block.specs.First.{pick}
 use Rattle.block.specs.Block.{Block, LevelCode, levelBits}
 use Rattle.block.specs.Choice.{Choice, Codable, CodableChoice, bits, error}
 use Rattle.block.specs.Limits.{Limits}
-use Rattle.price.specs.Best.{Way, way, cost, Before, Before.cheaper, Before.shorter, Before.smaller, Best, NoChoice}
+use Rattle.price.specs.Best.{Way, way, cost, Before, Before.cheaper, Before.shorter, Before.smaller, Best}
 use Rattle.forward.specs.declared.Chosen.{Chosen}
 use Rattle.forward.specs.declared.Decision.{Decision}
 use Rattle.forward.specs.Decision.{OfBest, Decides}

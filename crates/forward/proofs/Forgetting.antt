@@ -1,6 +1,6 @@
 -- Nodes that a later one beats whatever follows can be left out of a scan.
 -- Assumes nothing.
-use mathlib.Core.Path.{_≡_, refl, sym, subst, ap, _∙_}
+use mathlib.Core.Path.{_≡_, subst, ap, _∙_}
 use mathlib.Core.Bool.{Bool, true, false}
 use mathlib.Core.List.{List}
 use Prim.Native.Nat.{ℕ, _+_, _-_, _*_, _≤_, _<_}
@@ -9,11 +9,11 @@ use native.Mathlib.Decide.{decLt}
 use native.Mathlib.Omega.{arith}
 use borrow.Author.Tests.{ne-eqb}
 use lib.Dec.{eqb}
-use lib.ListN.{length, getD, set}
-use lib.Seq.{getD-set-same, getD-set-other}
+use lib.ListN.{getD, set}
+use lib.Seq.{getD-set-other}
 use Rattle.block.specs.First.{pick}
 use Rattle.block.specs.Block.{Block}
-use Rattle.forward.specs.Given.{NO, SAVED, Entry, Entry.some as t-some, Entry.none as t-none, isFull, Table, Given}
+use Rattle.forward.specs.Given.{SAVED, Entry, Entry.some as t-some, Entry.none as t-none, isFull, Given}
 use Rattle.forward.specs.Scanning.{FAR, from, bound, costAt, Ahead, Ahead.cheaper, Ahead.shorter, Ahead.earlier, Earliest, Earliest.none as e-none, Earliest.some as e-some, Beats, Behind, Outdone, Beaten, Forgot, Reduced}
 use Rattle.forward.proofs.Pricing.{full-priced, full-there}
 use Rattle.forward.proofs.Scanning.{from-below, from-on}

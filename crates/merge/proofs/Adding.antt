@@ -1,14 +1,13 @@
 -- The corners' numbers are added one after the other.
 -- Assumes nothing.
-use mathlib.Core.Path.{_≡_, refl}
+use mathlib.Core.Path.{refl}
 use mathlib.Core.List.{List}
-use lib.Count.{ones, ones-le}
+use lib.Count.{ones-le}
 use lib.ListN.{getD}
 use Prim.Native.Nat.{ℕ, _+_, _^_, _≤_, _<_}
 use native.Mathlib.Numerals.{add-one}
 use native.Mathlib.Omega.{arith}
 use Rattle.answers.specs.declared.Point.{Point}
-use Rattle.merge.specs.Standing.{Sums}
 use Rattle.merge.specs.SettingOut.{Addable, Added, Adding}
 
 pub adding-start : {n : ℕ} {cb ce ck : List ℕ} → Adding n cb ce ck (record { bits = record { 0 = 0 }; error = record { 0 = 0 }; kept = 0 }) 0

@@ -1,11 +1,11 @@
 -- The steepest block moves while the still goes on: it may, it has its limits, and the still has more bits.
 -- Assumes nothing.
-use mathlib.Core.Path.{_≡_, refl, ap, sym, subst}
+use mathlib.Core.Path.{_≡_, ap, sym, subst}
 use mathlib.Core.Bool.{Bool}
 use mathlib.Core.List.{List}
 use lib.IntN.{ℤ}
-use lib.ListN.{length, getD}
-use Prim.Native.Nat.{ℕ, suc, _+_, _*_, _-_, _≤_, _<_}
+use lib.ListN.{getD}
+use Prim.Native.Nat.{ℕ, _+_, _*_, _-_, _≤_, _<_}
 use native.Mathlib.Omega.{arith}
 use native.Mathlib.Nat.{mul-le-mul}
 use Rattle.block.specs.Block.{Block}
@@ -17,13 +17,11 @@ use Rattle.corners.specs.Listed.{entry}
 use Rattle.attained.specs.Attained.{blockAt, Attained, Smallest}
 use Rattle.attained.proofs.Winning.{attained-bits, attained-error}
 use Rattle.answers.specs.declared.Point.{Point}
-use Rattle.ways.specs.Known.{Known}
 use Rattle.steepest.specs.Slope.{Top}
 use Rattle.steepest.specs.Tree.{Tree}
 use Rattle.steepest.proofs.Root.{root-top}
 use Rattle.merge.specs.Standing.{Station, Arrays, at, cornerAt, slot, OnWay}
 use Rattle.merge.specs.Finding.{Task, OneBlock}
-use Rattle.merge.specs.Taking.{Takes}
 use Rattle.merge.specs.Passing.{MayMove, Moved, Leaving, Passed, Passed.waits, Passed.gone, Passing}
 use Rattle.merge.proofs.Slots.{slot-at}
 use Rattle.merge.proofs.Totals.{bits-part, error-part, kept-part, bits-most, error-most, kept-most, sums-swap}

@@ -1,9 +1,9 @@
 -- A block's way on: what finding it is given, and what it answers.
 -- Assumes nothing.
-use mathlib.Core.Path.{_≡_, refl, sym, ap, _∙_}
+use mathlib.Core.Path.{_≡_, refl}
 use mathlib.Core.List.{List}
-use lib.ListN.{length, getD}
-use Prim.Native.Nat.{ℕ, _+_, _*_, _-_, _≤_, _<_}
+use lib.ListN.{length}
+use Prim.Native.Nat.{ℕ, _+_, _*_, _-_, _≤_}
 use native.Mathlib.Omega.{arith}
 use borrow.Rule.Slice.PartMut.{putMid}
 use Rattle.block.specs.Block.{Block}
@@ -13,7 +13,7 @@ use Rattle.attained.specs.Attained.{Attained}
 use Rattle.ways.specs.declared.Ahead.{Ahead}
 use Rattle.ways.specs.Known.{Known, FoundWay}
 use Rattle.merge.specs.Standing.{slot}
-use Rattle.merge.specs.Finding.{Sees, Sees.none, Sees.some, Found, Found.stop, Found.onward, FoundAt}
+use Rattle.merge.specs.Finding.{Sees, Sees.none, Sees.some, Found.stop, Found.onward, FoundAt}
 use Rattle.merge.proofs.Slots.{slot-here, back-long, slot-other}
 
 -- As many as lie between the ends of a part.

@@ -1,22 +1,18 @@
 -- A block goes its way: it takes the top one of the corners known ahead, and the way on from there is found.
 -- Assumes nothing.
-use mathlib.Core.Path.{_≡_, refl, sym, ap, subst, _∙_}
+use mathlib.Core.Path.{_≡_, sym, ap, _∙_}
 use mathlib.Core.List.{List}
-use lib.Count.{ones}
 use lib.ListN.{getD}
-use Prim.Native.Nat.{ℕ, _+_, _*_, _-_, _≤_, _<_}
+use Prim.Native.Nat.{ℕ, _+_, _*_, _-_, _<_}
 use native.Mathlib.Omega.{arith}
 use native.Mathlib.Decide.{ℕ-discrete}
 use Rattle.block.specs.Block.{Block}
 use Rattle.corners.specs.Pair.{Pair}
-use Rattle.corners.specs.Corner.{Corner}
 use Rattle.corners.specs.Listed.{entry}
 use Rattle.corners.proofs.Corners.{pair-path}
-use Rattle.attained.specs.Attained.{Attained, Smallest}
 use Rattle.answers.specs.declared.Point.{Point}
 use Rattle.ways.specs.declared.Ahead.{Ahead}
-use Rattle.ways.specs.Known.{Known, FoundWay}
-use Rattle.ways.proofs.Knowing.{known-less, known-last, found-goal}
+use Rattle.ways.proofs.Knowing.{known-less, found-goal}
 use Rattle.winners.specs.Winners.{pairAt}
 use Rattle.merge.specs.Standing.{Station, Arrays, arrays, at, cornerAt, slot, OnWay, Heads, Heads.arrived, Heads.going}
 use Rattle.merge.specs.Finding.{Sees, Sees.none, Sees.some, Found, Found.stop, Found.onward, WaySet}

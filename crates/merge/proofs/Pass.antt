@@ -2,13 +2,11 @@
 -- Assumes nothing.
 use mathlib.Core.Path.{_≡_, refl, ap, sym, subst, _∙_}
 use mathlib.Core.List.{List}
-use mathlib.Core.Bool.{Bool, true, false, cond}
-use lib.Dec.{eqb}
-use lib.ListN.{length, getD}
-use Prim.Native.Nat.{ℕ, _+_, _*_, _-_, _≤_, _<_}
+use lib.ListN.{getD}
+use Prim.Native.Nat.{ℕ, _*_, _-_, _≤_, _<_}
 use native.Mathlib.Omega.{arith}
 use native.Mathlib.Decide.{ℕ-discrete}
-use native.Mathlib.Nat.{mul-le-mul-left, mul-le-mul-right, lt-of-mul-lt-mul-left}
+use native.Mathlib.Nat.{mul-le-mul-right, lt-of-mul-lt-mul-left}
 use borrow.Author.Tests.{eq-eqb, ne-eqb}
 use Rattle.block.specs.Block.{Block}
 use Rattle.block.specs.Limits.{Limits, mostBits, mostError}
@@ -21,7 +19,7 @@ use Rattle.answers.specs.declared.Point.{Point}
 use Rattle.steepest.specs.Slope.{Slopes, Top}
 use Rattle.steepest.specs.Tree.{Tree, Stale}
 use Rattle.steepest.proofs.Root.{root-top}
-use Rattle.merge.specs.Standing.{Station, Arrays, at, cornerAt, Long, AsLong, OnWay, Heads, Stationed, Standing, Sums}
+use Rattle.merge.specs.Standing.{Station, Arrays, at, cornerAt, Long, AsLong, OnWay, Heads, Stationed, Sums}
 use Rattle.merge.specs.Passing.{Moved, Leaving, Passed, Passed.waits, Passed.gone, Passing, Advanced}
 use Rattle.merge.proofs.Station.{on-way, sized, stays, goes}
 

@@ -4,15 +4,14 @@ use mathlib.Core.Path.{_≡_, refl, ap, sym, subst, _∙_}
 use mathlib.Core.List.{List}
 use lib.ListN.{length, getD, set, length-set}
 use lib.Seq.{getD-set-same, getD-set-other}
-use Prim.Native.Nat.{ℕ, suc, _+_, _*_, _-_, _≤_, _<_}
+use Prim.Native.Nat.{ℕ, _+_, _*_, _-_, _≤_, _<_}
 use native.Mathlib.Omega.{arith}
 use native.Mathlib.Decide.{ℕ-discrete}
 use borrow.Author.Count.{below-more}
 use Rattle.block.specs.Block.{Block}
-use Rattle.block.specs.Limits.{Limits, mostBits, mostError}
+use Rattle.block.specs.Limits.{Limits, mostError}
 use Rattle.corners.specs.Pair.{Pair}
 use Rattle.corners.specs.Price.{Wins}
-use Rattle.corners.specs.Corner.{Corner}
 use Rattle.corners.specs.Listed.{entry}
 use Rattle.corners.proofs.Corners.{pair-path, same-corner}
 use Rattle.corners.proofs.Winner.{wins-corner}
@@ -20,13 +19,13 @@ use Rattle.corners.proofs.Halving.{dearer-shorter}
 use Rattle.corners.proofs.Moves.{sets-out}
 use Rattle.attained.specs.Attained.{Attained}
 use Rattle.attained.proofs.Winning.{gives-wins, gives-smallest, attained-bits, attained-error}
-use Rattle.winners.specs.Winners.{pairAt, Winners}
+use Rattle.winners.specs.Winners.{pairAt}
 use Rattle.forward.specs.Given.{Room}
 use Rattle.ways.proofs.Knowing.{known-one}
 use Rattle.steepest.specs.Slope.{Slopes}
 use Rattle.steepest.specs.Tree.{Tree}
-use Rattle.merge.specs.Standing.{Station, Arrays, arrays, at, slot, Long, Heads, Stationed, Standing}
-use Rattle.merge.specs.Finding.{Sees, Sees.none, Sees.some, Found, WaySet}
+use Rattle.merge.specs.Standing.{arrays, at, slot, Long, Heads, Stationed}
+use Rattle.merge.specs.Finding.{Sees, Sees.none, Sees.some, WaySet}
 use Rattle.merge.specs.SettingOut.{Ends, Aimed, Headed, Setting, Heading, Addable, SetOut}
 use Rattle.merge.proofs.Store.{here, elsewhere, as-long}
 use Rattle.merge.proofs.Slots.{slot-apart, slot-at, slot-long}

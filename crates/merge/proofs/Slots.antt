@@ -1,7 +1,7 @@
 -- Block k's 24 numbers lent and put back: they are its slot, and the other slots are as they were.
 -- Assumes nothing.
-use mathlib.Core.Path.{_≡_, refl, sym, ap, _∙_}
-use mathlib.Core.List.{List, [], _∷_, _++_}
+use mathlib.Core.Path.{_≡_, sym, ap, _∙_}
+use mathlib.Core.List.{List, [], _∷_}
 use lib.ListN.{length, getD, set, take, drop, length-drop}
 use lib.Seq.{take-at, drop-at, drop-drop, take-take, length-take-le, take-nil, take-set-le, drop-set-lt, getD-take, getD-drop}
 use Prim.Native.Nat.{ℕ, zero, suc, _+_, _*_, _-_, _≤_, _<_}

@@ -1,7 +1,7 @@
 -- One block at its station: its course, the size of its way, and how it stays or goes on.
 -- Assumes nothing.
-use mathlib.Core.Path.{_≡_, refl, ap, sym, subst}
-use Prim.Native.Nat.{ℕ, _+_, _*_, _-_, _≤_, _<_}
+use mathlib.Core.Path.{_≡_, ap, sym}
+use Prim.Native.Nat.{ℕ, _*_, _-_, _≤_, _<_}
 use native.Mathlib.Omega.{arith}
 use Rattle.block.specs.Block.{Block}
 use Rattle.block.specs.Limits.{Limits, mostBits, mostError}

@@ -1,6 +1,6 @@
 -- What all blocks have together: sums of one number a block, at most so much, and a change of one block's.
 -- Assumes nothing.
-use mathlib.Core.Path.{_≡_, refl, ap, sym, _∙_}
+use mathlib.Core.Path.{_≡_, refl, ap}
 use mathlib.Core.List.{List}
 use lib.Count.{ones, ones-le}
 use lib.ListN.{getD}

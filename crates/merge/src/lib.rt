@@ -3,7 +3,6 @@ use answers::Point;
 use price::Bits;
 use price::Error;
 use ways::Ahead;
-ghost use mathlib.Core.Path.{_≡_};
 ghost use lib.ListN.{length};
 ghost use Prim.Native.Nat.{_+_, _*_, _^_, _≤_, _<_};
 ghost use Rattle.attained.specs.Attained.{blockAt};

@@ -1,26 +1,21 @@
 -- The price job's promise settles its answer and the keep numbers.
 -- Assumes nothing.
-use mathlib.Core.Path.{_≡_, refl, sym, ap, _∙_}
+use mathlib.Core.Path.{_≡_, sym, _∙_}
 use mathlib.Core.List.{List}
-use Prim.Native.Nat.{ℕ, zero, suc, _/_, _≤_, _<_}
+use Prim.Native.Nat.{ℕ, _≤_}
 use native.Mathlib.Omega.{arith}
 use lib.IntN.{ℤ}
-use lib.ListN.{length, getD}
+use lib.ListN.{length}
 use lib.Seq.{ext-getD}
 use Rattle.block.specs.Block.{Block}
 use Rattle.corners.specs.Pair.{Pair}
-use Rattle.corners.specs.Still.{total}
 use Rattle.corners.proofs.Sums.{total-same}
-use Rattle.attained.specs.Attained.{blockAt, Gives}
 use Rattle.attained.specs.Uncodable.{FirstUncodable}
 use Rattle.attained.proofs.Winning.{gives-unique}
 use Rattle.attained.proofs.Uncodable.{uncodable-unique}
 use Rattle.answers.specs.declared.PointAnswer.{PointAnswer}
-use Rattle.answers.specs.Said.{fine, saidPoint, point, refused}
 use Rattle.answers.proofs.Same.{point-same}
-use Rattle.still.specs.Refusals.{priceVerdict}
 use Rattle.still.proofs.Fine.{price-verdict-fine}
-use Rattle.kept.specs.Kept.{keptOf}
 use Rattle.price_job.specs.PriceJob.{Decided, Priced, uncodable, decides, PriceMeets, refuses, prices}
 
 module _ {B : ℕ → Block} {n a b : ℕ} (low : 1 ≤ a) where

@@ -1,9 +1,8 @@
 -- A corner has one choice, and so it keeps one number of coefficients.
 -- Assumes nothing.
 use mathlib.Core.Path.{_≡_, refl, sym, subst, _∙_}
-use Prim.Native.Nat.{ℕ, zero, suc, _+_, _<_}
+use Prim.Native.Nat.{ℕ, zero, suc, _<_}
 use native.Mathlib.Omega.{arith}
-use lib.Count.{ones}
 use Rattle.block.specs.Block.{Block}
 use Rattle.corners.specs.Pair.{Pair}
 use Rattle.corners.specs.Corner.{Corner}

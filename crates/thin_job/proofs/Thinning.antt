@@ -1,7 +1,7 @@
 -- Levels that are thinned from the front: what holds of the places passed and of those to come.
 -- Assumes nothing.
 use mathlib.Core.Path.{_≡_, refl, sym, _∙_}
-use mathlib.Core.Bool.{Bool, true, false, not}
+use mathlib.Core.Bool.{true, false, not}
 use mathlib.Core.List.{List}
 use Prim.Native.Nat.{ℕ, _+_, _≤_, _<_}
 use native.Mathlib.Omega.{arith}
@@ -9,16 +9,9 @@ use lib.IntN.{ℤ, pos}
 use lib.ListN.{length, length-set, getD, set}
 use lib.Seq.{getD-set-same, getD-set-other}
 use borrow.Author.Count.{below-more}
+use borrow.Author.Tests.{not-true, not-false}
 use Rattle.block.specs.First.{pick}
 use Rattle.thin_job.specs.ThinJob.{stays, Thinned}
-
-not-true : (b : Bool) → not b ≡ true → b ≡ false
-not-true true e = let z : _≡_ {A = ℕ} 0 1 = cc in absurd (omega arith)
-not-true false e = refl
-
-not-false : (b : Bool) → not b ≡ false → b ≡ true
-not-false true e = refl
-not-false false e = let z : _≡_ {A = ℕ} 0 1 = cc in absurd (omega arith)
 
 pub record ThinnedTo (before : List ℤ) (keep : List ℕ) (n : ℕ) (after : List ℤ) : Type 0 where
   pub count : length after ≡ length before

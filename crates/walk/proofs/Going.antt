@@ -10,7 +10,7 @@ use Rattle.block.specs.Block.{Block}
 use Rattle.block.specs.Limits.{Limits, mostBits}
 use Rattle.corners.specs.Pair.{Pair}
 use Rattle.corners.specs.Still.{total}
-use Rattle.corners.specs.Merging.{ahead, Stands, Goes, onward, growth}
+use Rattle.corners.specs.Merging.{Stands, Goes, onward, growth}
 use Rattle.corners.proofs.Corners.{pair-path}
 use Rattle.corners.proofs.Sums.{total-same}
 use Rattle.corners.proofs.Moves.{stands-run}
@@ -18,7 +18,6 @@ use Rattle.corners.proofs.Merge.{merge-more}
 use Rattle.corners.proofs.Passing.{goes-onward, onward-bits}
 use Rattle.attained.specs.Attained.{Attained}
 use Rattle.answers.specs.declared.Point.{Point}
-use Rattle.kept.specs.Kept.{keptTo}
 use Rattle.merge.specs.CornerChoice.{CornerChoice, CornerKept}
 use Rattle.merge.specs.Standing.{Arrays, at, cornerAt, Standing, Sums}
 use Rattle.merge.specs.Passing.{Leaving, Advanced}

@@ -1,22 +1,18 @@
 -- The walk past all corners: it starts at the first, lists one more a turn, and ends at the last.
 -- Assumes nothing.
-use mathlib.Core.Path.{_≡_, refl, sym, ap, subst, _∙_}
+use mathlib.Core.Path.{_≡_, refl, sym, ap, subst}
 use mathlib.Core.List.{List, [], _∷_, _++_}
 use lib.ListN.{length, getD, length-append}
-use Prim.Native.Nat.{ℕ, _+_, _*_, _≤_, _<_}
+use Prim.Native.Nat.{ℕ, _+_}
 use native.Mathlib.Omega.{arith}
 use Rattle.block.specs.Block.{Block}
-use Rattle.block.specs.Limits.{mostBits, mostError}
-use Rattle.price.specs.Price.{Accepted}
 use Rattle.corners.specs.Pair.{Pair}
 use Rattle.corners.specs.Still.{total}
-use Rattle.corners.specs.Merging.{SoFar}
-use Rattle.corners.proofs.Moves.{stands-run}
 use Rattle.corners.proofs.Merge.{merge-start, merge-step, merge-finish}
 use Rattle.attained.specs.Attained.{Attained}
 use Rattle.answers.specs.declared.Point.{Point}
-use Rattle.steepest.specs.Slope.{Slope, Top}
-use Rattle.merge.specs.Standing.{Arrays, at, cornerAt}
+use Rattle.steepest.specs.Slope.{Slope}
+use Rattle.merge.specs.Standing.{Arrays, cornerAt}
 use Rattle.merge.specs.Passing.{Leaving, Advanced}
 use Rattle.merge.proofs.Advancing.{steepest-at}
 use Rattle.walk.specs.Written.{Written, Walked}

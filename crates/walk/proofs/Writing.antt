@@ -1,18 +1,16 @@
 -- A corner's three numbers are written where there is room for them.
 -- Assumes nothing.
-use mathlib.Core.Path.{_≡_, refl, sym, ap, subst, _∙_}
+use mathlib.Core.Path.{_≡_, refl, sym, ap, _∙_}
 use mathlib.Core.List.{List, [], _∷_, _++_}
-use lib.ListN.{length, getD, set, take, length-append, length-set}
+use lib.ListN.{length, getD, set, length-append, length-set}
 use lib.Seq.{getD-set-same, getD-set-other, take-append-le, take-all}
 use Prim.Native.Nat.{ℕ, _+_, _*_, _≤_, _<_}
-use native.Mathlib.Numerals.{add-one}
 use native.Mathlib.Omega.{arith}
 use native.Mathlib.Decide.{decLe}
 use borrow.Author.Count.{below-more}
 use Rattle.block.specs.Block.{Block}
 use Rattle.corners.specs.Pair.{Pair}
 use Rattle.corners.specs.Listed.{entry, entries}
-use Rattle.corners.proofs.Corners.{pair-path}
 use Rattle.corners.proofs.Entries.{entries-set, entries-more}
 use Rattle.answers.specs.declared.Point.{Point}
 use Rattle.merge.specs.CornerChoice.{CornerKept}

@@ -1,16 +1,14 @@
 -- One block's numbers more are stored: the others stay, and the sums grow by its own.
 -- Assumes nothing.
-use mathlib.Core.Path.{_≡_, refl, ap, _∙_}
+use mathlib.Core.Path.{_≡_, ap}
 use mathlib.Core.List.{List}
-use Prim.Native.Nat.{ℕ, suc, _+_, _*_, _≤_, _<_}
+use Prim.Native.Nat.{ℕ, _+_, _<_}
 use native.Mathlib.Numerals.{add-one}
-use native.Mathlib.Decide.{ℕ-discrete}
 use native.Mathlib.Omega.{arith}
 use lib.ListN.{length, getD, set}
 use lib.Seq.{getD-set-same, getD-set-other}
 use borrow.Author.Count.{below-more}
 use Rattle.block.specs.Block.{Block}
-use Rattle.block.specs.Limits.{Limits, mostBits, mostError}
 use Rattle.corners.specs.Pair.{Pair}
 use Rattle.corners.specs.Still.{total}
 use Rattle.corners.proofs.Corners.{pair-path}

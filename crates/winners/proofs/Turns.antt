@@ -12,9 +12,7 @@ use Rattle.block.specs.Limits.{Limits, mostBits, mostError}
 use Rattle.block.specs.Level.{blockOf, levelsOf}
 use Rattle.block.proofs.Limited.{block-limits}
 use Rattle.price.specs.Price.{Accepted}
-use Rattle.price.specs.Best.{NoChoice}
 use Rattle.corners.specs.Pair.{Pair}
-use Rattle.corners.specs.Still.{total}
 use Rattle.corners.proofs.Corners.{pair-path}
 use Rattle.attained.specs.Attained.{blockAt, Gives}
 use Rattle.attained.proofs.Winning.{gives-wins, attained-bits, attained-error}
@@ -25,9 +23,8 @@ use Rattle.forward.specs.declared.Decision.the-variants as decision
 use Rattle.forward.specs.Decision.{OfBest, Decides}
 use Rattle.search.specs.BitTable.{Made}
 use Rattle.search.specs.Ready.{Ready, Settles}
-use Rattle.winners.specs.declared.Outcome.{Outcome}
 use Rattle.winners.specs.declared.Outcome.the-variants as outcome
-use Rattle.winners.specs.Winners.{pairAt, Winners, Outcomes, all, uncodable}
+use Rattle.winners.specs.Winners.{Outcomes, all, uncodable}
 use Rattle.winners.specs.Deciding.{Deciding}
 use Rattle.winners.proofs.Stored.{total-stored, winners-more}
 

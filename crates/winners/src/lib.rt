@@ -3,7 +3,6 @@ use forward::Decision;
 use price::Bits;
 use price::Error;
 use price::Price;
-ghost use mathlib.Core.Path.{_≡_};
 ghost use Prim.Native.Nat.{_/_, _≤_};
 ghost use lib.ListN.{length};
 ghost use Rattle.price.specs.Price.{Accepted};

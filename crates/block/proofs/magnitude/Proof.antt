@@ -1,8 +1,8 @@
 -- `block::magnitude` meets its contract: a level read back from its bits is itself, and its negation fits.
 -- Assumes nothing.
-use lib.IntN.{ℤ, pos, +ℤ-idl}
+use lib.IntN.{+ℤ-idl}
 use mir.Syntax.{w16}
-use mir.Facts.{sfits-widen, fits-natAbs}
+use mir.Facts.{sfits-widen}
 use Rattle.block.proofs.Level.{back, back64, neg-fits, neg-back, neg-cast, else-cast, abs-neg}
 use Rattle.block.proofs.magnitude.Statement.{statement}
 use Rattle.block.proofs.magnitude.Tie as tie

@@ -3,7 +3,6 @@
 use mathlib.Core.Path.{_≡_, refl, sym, _∙_}
 use Prim.Native.Nat.{_-_}
 use native.Mathlib.Omega.{arith}
-use borrow.Author.Needs.{needs}
 use lib.ListN.{length}
 use Rattle.attained.specs.Attained.{blockAt}
 use Rattle.merge.specs.Standing.{arrays, AsLong}
