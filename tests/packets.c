@@ -1,4 +1,4 @@
-/* Writes packets for the list program into a folder: the one of document 01, random, large and damaged ones.
+/* Writes packets for the list program into a folder, which has a folder for each kind of them.
    Run as: packets FOLDER [count [seed]]. */
 #include "faults.h"
 #include "stills.h"
@@ -8,10 +8,10 @@
 
 static const char *folder;
 
-static void write_packet(const char *name, uint64_t serial, const uint8_t *packet, size_t length)
+static void write_packet(const char *name, const uint8_t *packet, size_t length)
 {
     char path[1000];
-    snprintf(path, sizeof path, "%s/%s-%04ju.pkt", folder, name, (uintmax_t)serial);
+    snprintf(path, sizeof path, "%s/%s.pkt", folder, name);
     FILE *file = fopen(path, "wb");
     if (file == NULL || fwrite(packet, 1, length, file) != length || fclose(file) != 0) {
         fprintf(stderr, "packets: can't write %s\n", path);
@@ -19,10 +19,18 @@ static void write_packet(const char *name, uint64_t serial, const uint8_t *packe
     }
 }
 
-static void write_still(const char *name, uint64_t serial, const Made *made)
+/* One of many of its kind. */
+static void write_numbered(const char *kind, uint64_t serial, const uint8_t *packet, size_t length)
+{
+    char name[100];
+    snprintf(name, sizeof name, "%s/%05ju", kind, (uintmax_t)serial);
+    write_packet(name, packet, length);
+}
+
+static void write_still(const char *kind, uint64_t serial, const Made *made)
 {
     static uint8_t packet[PACKET_ROOM];
-    write_packet(name, serial, packet, pack(made_still(made), packet));
+    write_numbered(kind, serial, packet, pack(made_still(made), packet));
 }
 
 /* The packet whose whole output document 01 prints. */
@@ -31,7 +39,8 @@ static void document_01(void)
     Made made = made_zero(2, 10);
     made.steps[1] = 2;
     made.levels[1] = made.levels[POSITIONS + 1] = made.levels[POSITIONS + 17] = 1;
-    write_still("document", 1, &made);
+    uint8_t packet[PACKED_HEAD + 2 * PACKED_BLOCK];
+    write_packet("document", packet, pack(made_still(&made), packet));
     made_done(&made);
 }
 
@@ -52,7 +61,7 @@ static void large(uint64_t seed)
         for (Large kind = 0; kind < LARGE_KINDS; kind++) {
             Random random = random_of(seed, 1000 * kind + blocks[size]);
             Made made = made_large(kind, blocks[size], &random);
-            write_still(large_names[kind], blocks[size], &made);
+            write_still("large", 1000 * kind + blocks[size], &made);
             made_done(&made);
         }
 }
@@ -100,9 +109,24 @@ static void damaged(uint64_t count, uint64_t seed)
             length += (size_t)between(&random, 1, PACKED_BLOCK);
         else if (kind == 3)
             packet[below(&random, 2)] ^= bit;
-        write_packet("damaged", serial, packet, length);
+        write_numbered("damaged", serial, packet, length);
         call_done(&call);
     }
+}
+
+/* Every bit of the header turned over, one at a time. */
+static void header(uint64_t seed)
+{
+    uint8_t packet[PACKED_HEAD + 2 * PACKED_BLOCK];
+    Random random = random_of(seed, 0);
+    Made made = made_large(LARGE_PHOTOGRAPH, 2, &random);
+    size_t length = pack(made_still(&made), packet);
+    for (size_t bit = 0; bit < 8 * PACKED_HEAD; bit++) {
+        packet[bit / 8] ^= (uint8_t)(0x80 >> bit % 8);
+        write_numbered("header", bit, packet, length);
+        packet[bit / 8] ^= (uint8_t)(0x80 >> bit % 8);
+    }
+    made_done(&made);
 }
 
 /* Lengths at the ends: nothing, a byte, the longest packet and one more and one less, far more. */
@@ -116,7 +140,7 @@ static void lengths(uint64_t seed)
             Made made = made_large(LARGE_PHOTOGRAPH, full ? MOST_PACKED : 1, &random);
             memset(packet, 0, sizeof packet);
             pack(made_still(&made), packet);
-            write_packet(full ? "length-full" : "length", ends[i], packet, ends[i]);
+            write_numbered("length", 2 * i + full, packet, ends[i]);
             made_done(&made);
         }
 }
@@ -136,6 +160,7 @@ int main(int count, char **arguments)
     exact_corners(PROGRAM_CORNERS, seed);
     exact_corners(PROGRAM_CORNERS + 1, seed);
     damaged(packets, seed);
+    header(seed);
     lengths(seed);
     return 0;
 }

@@ -1,27 +1,24 @@
 #!/bin/sh
 # Holds the list program against the independent implementation, packet by packet.
-# Usage: tests/stops.sh TOOLS COMMAND [ARGUMENT...]
+# Usage: tests/stops.sh TOOLS PROGRAM
 #   TOOLS    the folder where tests/build.sh put packets and plain_stops
-#   COMMAND  runs the list program, with an emulator before it where one is needed
-# COUNT and SEED in the environment choose the random packets, SAMPLES the folder of the real ones.
+#   PROGRAM  the list program
+# COUNT and SEED in the environment choose the random packets, SAMPLES the folder of the real ones. From a COUNT of 2,500 on
+# every length of a packet is tried.
 set -eu
-[ $# -ge 2 ] || { echo "usage: tests/stops.sh TOOLS COMMAND [ARGUMENT...]" >&2; exit 2; }
+[ $# -eq 2 ] || { echo "usage: tests/stops.sh TOOLS PROGRAM" >&2; exit 2; }
 tools=$1
-shift
-count=${COUNT:-100}
+program=$2
+cd "$(dirname "$0")/.."
+. tests/machine.sh
+count=${COUNT:-500}
 seed=${SEED:-1}
-samples=${SAMPLES:-$(dirname "$0")/../samples}
+samples=${SAMPLES:-samples}
 room=$(mktemp -d)
 trap 'rm -rf "$room"' EXIT
 passed=0
 failed=0
-
-command=$*
-# list: the program under test; its exit status is not part of what is promised
-list() {
-    # shellcheck disable=SC2086
-    $command || true
-}
+: >"$room/refusals"
 
 # settle NAME COMPARED WRONG: one group of packets
 settle() {
@@ -34,25 +31,43 @@ settle() {
     fi
 }
 
-# compare NAME PACKET...: a group in which the independent implementation tells what to print
-compare() {
+# list: the program under test; its exit status is not part of what is promised
+list() {
+    run "$program" || true
+}
+
+# begin NAME: a group in which the independent implementation tells what to print
+begin() {
     name=$1
-    shift
     compared=0
     wrong=0
-    for packet do
-        compared=$((compared + 1))
-        "$tools/plain_stops" <"$packet" >"$room/expected"
-        list <"$packet" >"$room/printed"
-        if ! cmp -s "$room/expected" "$room/printed"; then
-            wrong=$((wrong + 1))
-            if [ "$wrong" -le 5 ]; then
-                echo "      $name, $(basename "$packet"): printed $(head -n 1 "$room/printed")," \
-                    "expected $(head -n 1 "$room/expected")"
-            fi
-        fi
-    done
+}
+
+# try PACKET: one packet of the group
+try() {
+    compared=$((compared + 1))
+    "$tools/plain_stops" <"$1" >"$room/expected"
+    list <"$1" >"$room/printed"
+    read -r word number _ <"$room/expected"
+    [ "$word" = corners ] || echo "$number" >>"$room/refusals"
+    cmp -s "$room/expected" "$room/printed" && return
+    wrong=$((wrong + 1))
+    [ "$wrong" -gt 5 ] || echo "      $name, $(basename "$1"), $(wc -c <"$1") bytes: printed $(head -n 1 "$room/printed")," \
+        "expected $(head -n 1 "$room/expected")"
+}
+
+end() {
     settle "$name" "$compared" "$wrong"
+}
+
+# compare NAME PACKET...: a whole group
+compare() {
+    begin "$1"
+    shift
+    for packet do
+        try "$packet"
+    done
+    end
 }
 
 # expect NAME: a group of one, what was printed against what was expected
@@ -66,26 +81,47 @@ expect() {
     fi
 }
 
+# lengths: of a packet, all of them or those next to a packet's own
+lengths() {
+    if [ "$count" -ge 2500 ]; then
+        seq 0 24803
+    else
+        seq 0 330
+        for length in $(seq 418 96 24802); do
+            echo $((length - 1)) "$length" $((length + 1))
+        done
+    fi
+}
+
 echo "list program: $count random and $count damaged packets, seed $seed"
+mkdir "$room/small" "$room/large" "$room/damaged" "$room/header" "$room/length" "$room/exact"
 "$tools/packets" "$room" "$count" "$seed"
 
-cat >"$room/expected" <<'END'
+cat >"$room/expected" <<'TEXT'
 corners 4
 8 108 0
 22 8 1
 25 4 2
 31 0 3
-END
-list <"$room/document-0001.pkt" >"$room/printed"
+TEXT
+list <"$room/document.pkt" >"$room/printed"
 expect "list program: the whole output of document 01"
 
 compare "list program: real packets" "$samples"/*.pkt
-compare "list program: small packets" "$room"/small-*.pkt
-compare "list program: damaged packets" "$room"/damaged-*.pkt
-compare "list program: lengths at the ends" "$room"/length-*.pkt
-compare "list program: 1,024 corners are listed, 1,025 refused" "$room"/exact-*.pkt
-rm "$room"/small-*.pkt "$room"/damaged-*.pkt "$room"/length-*.pkt "$room"/exact-*.pkt "$room"/document-*.pkt
-compare "list program: large packets" "$room"/*.pkt
+compare "list program: small packets" "$room"/small/*
+compare "list program: large packets" "$room"/large/*
+compare "list program: 1,024 corners are listed, 1,025 refused" "$room"/exact/*
+compare "list program: damaged packets" "$room"/damaged/*
+compare "list program: every bit of the header turned over" "$room"/header/*
+compare "list program: lengths at the ends" "$room"/length/*
+
+begin "list program: a packet cut off, at every length or next to a packet's"
+{ cat "$samples/camera_q50.pkt" && echo; } >"$room/whole.pkt"
+for length in $(lengths); do
+    head -c "$length" "$room/whole.pkt" >"$room/cut.pkt"
+    try "$room/cut.pkt"
+done
+end
 
 # a pipe hands over what has arrived so far, which may be part of the packet
 "$tools/plain_stops" <"$samples/camera_q50.pkt" >"$room/expected"
@@ -96,6 +132,15 @@ expect "list program: a packet that arrives in pieces"
 echo "refused 11 24803 0" >"$room/expected"
 yes | list >"$room/printed"
 expect "list program: an input without end"
+
+begin "list program: every refusal that it can give"
+for number in 2 3 6 7 8 11; do
+    seen=$(grep -cx "$number" "$room/refusals") || wrong=$((wrong + 1))
+    compared=$((compared + seen))
+    told="${told:-}${told:+, }$number: $seen"
+done
+echo "      refused by $told"
+end
 
 echo "$passed passed, $failed failed"
 [ "$failed" -eq 0 ]
