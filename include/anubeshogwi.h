@@ -45,6 +45,8 @@ enum {
     ANB_BAD_PACKET = 11   /* the version is not 1, or the length is not 226 + 96n */
 };
 
+enum { ANB_STACK_BYTES = 512 * 1024 };
+
 /* Fits a packed still into a budget of bits: chooses, of the stops of the still (the pairs of bits and squared error
    that some two positive prices, one on error and one on bits, make strictly cheaper than all others), the one with
    most bits not above the budget. No other choice with at most as many bits as that stop has less squared error.

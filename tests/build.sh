@@ -11,7 +11,7 @@ here=$top/tests
 # shellcheck source=tests/machine.sh
 . "$here/machine.sh"
 mkdir -p "$out"
-flags="-std=c11 -Wall -Wextra -O2 ${CFLAGS:-} -I$top/include"
+flags="-std=c11 -D_DEFAULT_SOURCE -Wall -Wextra -O2 ${CFLAGS:-} -I$top/include"
 plain="$here/plain.c $here/stops.c $here/definition.c $here/programme.c $here/packed.c $here/k5.c"
 made="$plain $here/random.c $here/stills.c"
 example=$top/examples/head_end.c

@@ -4,6 +4,7 @@
 #include "faults.h"
 #include "lent.h"
 #include "options.h"
+#include "stack.h"
 #include "stills.h"
 #include "tally.h"
 
@@ -289,6 +290,24 @@ static void refusals(Options options)
     tally_end();
 }
 
+/* Each field of a packet can be the bad one. */
+static void every_place(Options options)
+{
+    static const char *const names[BAD_KINDS] = {"length", "step", "level"};
+    uint8_t packet[PACKED_HEAD + 4 * PACKED_BLOCK];
+    tally_begin("head-end: a fault at every place");
+    for (Bad kind = 0; kind < BAD_KINDS; kind++)
+        for (unsigned place = 0; place < BAD_PLACES; place++) {
+            Random random = random_of(options.seed, place);
+            Made made = made_bad(kind, place, &random);
+            size_t length = pack(made_still(&made), packet);
+            tally_case("%s %u", names[kind], place);
+            try_budget(packet, length, UINT32_MAX, 8 * made.blocks, &random);
+            made_done(&made);
+        }
+    tally_end();
+}
+
 static void told(const uint8_t *packet, size_t packet_len, uint32_t expected)
 {
     uint32_t got = anb_budget(packet, packet_len, UINT32_MAX, NULL, 0);
@@ -310,6 +329,44 @@ static void null_pointers(Options options)
     tally_end();
 }
 
+/* ---- Stack. ---- */
+
+typedef struct {
+    const uint8_t *packet;
+    size_t packet_len;
+    uint32_t budget;
+} Work;
+
+static void *fit(void *argument)
+{
+    static uint8_t keep[8 * MOST_PACKED];
+    const Work *work = argument;
+    anb_budget(work->packet, work->packet_len, work->budget, keep, 8 * ((size_t)work->packet[1] + 1));
+    return NULL;
+}
+
+/* What the header promises is not passed, at budgets all over the stops of large packets of every kind. */
+static void stack_use(Options options)
+{
+    static uint8_t packet[PACKET_ROOM];
+    size_t most = 0;
+    tally_begin("head-end: stack use");
+    for (Large kind = 0; kind < LARGE_KINDS; kind++) {
+        Random random = random_of(options.seed, kind);
+        Made made = made_large(kind, MOST_PACKED, &random);
+        size_t length = pack(made_still(&made), packet);
+        for (uint32_t budget = 1 << 10; budget <= 1 << 19; budget *= 8) {
+            size_t used = stack_used(fit, &(Work){packet, length, budget});
+            tally_case("%s, budget %ju", large_names[kind], (uintmax_t)budget);
+            tally(used <= ANB_STACK_BYTES, "%zu bytes", used);
+            most = used > most ? used : most;
+        }
+        made_done(&made);
+    }
+    tally_note("bytes at most", most);
+    tally_end();
+}
+
 int main(int count, char **arguments)
 {
     Options options = options_of(count, arguments, 3000);
@@ -320,6 +377,8 @@ int main(int count, char **arguments)
     every_header_bit(options);
     random_bytes(options);
     refusals(options);
+    every_place(options);
     null_pointers(options);
+    stack_use(options);
     return tally_finish();
 }

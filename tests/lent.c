@@ -1,5 +1,4 @@
 /* Buffers lent to the library, watched. */
-#define _DEFAULT_SOURCE
 #include "lent.h"
 
 #include "tally.h"

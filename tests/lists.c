@@ -191,6 +191,27 @@ static void refusals(Options options, bool list)
     tally_end();
 }
 
+/* Each place of each slice can be the bad one, and is told. */
+static void every_place(Options options)
+{
+    static const char *const names[BAD_KINDS] = {"length", "step", "level"};
+    tally_begin("list and budget: a fault at every place");
+    for (Bad kind = 0; kind < BAD_KINDS; kind++)
+        for (unsigned place = 0; place < BAD_PLACES; place++) {
+            Random random = random_of(options.seed, place);
+            Made made = made_bad(kind, place, &random);
+            Plain plain = plain_of(made_still(&made), BY_PROGRAMME);
+            LentStill lent = lend_still(plain.still);
+            tally_case("%s %u", names[kind], place);
+            try_list(&plain, &lent, 3, &random);
+            try_fit(&plain, &lent, UINT32_MAX, made.blocks, &random);
+            lent_still_done(&lent);
+            plain_done(&plain);
+            made_done(&made);
+        }
+    tally_end();
+}
+
 /* ---- The edges of the calls. ---- */
 
 /* With an answer of another length nothing at all is done. */
@@ -280,6 +301,7 @@ int main(int count, char **arguments)
     real_stills(options);
     refusals(options, true);
     refusals(options, false);
+    every_place(options);
     at_the_wall(options);
     other_answers(options);
     null_pointers();

@@ -11,6 +11,25 @@
 
 /* ---- One call. ---- */
 
+/* Calls in which the best choice of some block costs as much as another one, and what settles it then. */
+static uint64_t settled_by_bits, settled_by_keep;
+
+static void count_ties(const Plain *plain, uint64_t a, uint64_t b)
+{
+    bool by_bits = false, by_keep = false;
+    for (size_t block = 0; block < plain->still.levels_len / POSITIONS; block++) {
+        Choices choices = plain->choices[block];
+        Choice best = choices_best(choices, a, b);
+        for (size_t i = 0; i < choices.count; i++)
+            if (choices.at[i].keep != best.keep && cost_of(choices.at[i].pair, a, b) == cost_of(best.pair, a, b)) {
+                by_bits |= choices.at[i].pair.bits != best.pair.bits;
+                by_keep |= choices.at[i].pair.bits == best.pair.bits;
+            }
+    }
+    settled_by_bits += by_bits;
+    settled_by_keep += by_keep;
+}
+
 static void try_price(Plain *plain, const LentStill *lent, uint64_t a, uint64_t b, size_t keep_len, Random *random)
 {
     Still still = plain->still;
@@ -19,6 +38,8 @@ static void try_price(Plain *plain, const LentStill *lent, uint64_t a, uint64_t 
     fill_randomly(random, content, keep_len * sizeof *content);
     Lent keep = lend(content, keep_len * sizeof *content), answer = lend(noise, sizeof noise);
     Answer expected = plain_price(plain, a, b, content, keep_len);
+    if (expected.number == 0 && plain->way == BY_DEFINITION)
+        count_ties(plain, a, b);
     anb_price(lent->levels.at, still.levels_len, lent->steps.at, still.steps_len, lent->lengths.at,
               still.lengths_len, a, b, keep.at, keep_len, answer.at, 4);
     settle("anb_price", &answer, expected, &keep, content, lent_still_unchanged(lent));
@@ -129,16 +150,38 @@ static void try_small(const Made *made, Random *random)
     plain_done(&plain);
 }
 
+/* What the small stills held; those of the other tests are the same, since they have the same seed. */
+static void tell_small(const Held *held)
+{
+    if (held->stills < 100)
+        return;
+    tally_note("1 block", held->blocks[1]);
+    tally_note("2 blocks", held->blocks[2]);
+    tally_note("3 blocks", held->blocks[3]);
+    tally_note("4 blocks", held->blocks[4]);
+    tally_note("Table K.5", held->k5);
+    tally_note("other tables", held->stills - held->k5);
+    tally_note("codes missing", held->gaps);
+    tally_note("no end of block", held->no_end);
+    tally_note("no sixteen zeros", held->no_zeros);
+    tally_note("uncodable", held->uncodable);
+    tally_note("calls with equal costs, settled by bits", settled_by_bits);
+    tally_note("with equal costs and bits, settled by keep numbers", settled_by_keep);
+}
+
 static void small_stills(Options options)
 {
+    Held held = {0};
     tally_begin("price: small stills, by all choices");
     for (uint64_t serial = 0; serial < options.count; serial++) {
         Random random = random_of(options.seed, serial);
         Made made = made_small(&random);
+        held_add(&held, &made);
         tally_case("still %ju", (uintmax_t)serial);
         try_small(&made, &random);
         made_done(&made);
     }
+    tell_small(&held);
     tally_end();
 }
 
@@ -315,34 +358,41 @@ static void thin_refusals(Options options)
     tally_end();
 }
 
-static void try_once(const Made *made, Random *random)
-{
-    Plain plain = plain_of(made_still(made), BY_PROGRAMME);
-    LentStill lent = lend_still(plain.still);
-    try_price(&plain, &lent, 1, 0, made->blocks, random);
-    lent_still_done(&lent);
-    plain_done(&plain);
-}
-
 /* Each place of each slice can be the bad one, and is told. */
 static void every_place(Options options)
 {
-    Random random = random_of(options.seed, 0);
+    static const char *const names[BAD_KINDS] = {"length", "step", "level"};
     tally_begin("price: a fault at every place");
-    for (unsigned place = 0; place < LENGTHS; place++) {
-        Made made = made_zero(4, 10);
-        unsigned block = place / POSITIONS, k = place % POSITIONS;
-        made.lengths[place] = (uint8_t)between(&random, 17, 255);
-        tally_case("length %u", place);
-        try_once(&made, &random);
-        made.lengths[place] = 16;
-        made.levels[place] = (int16_t)(one_in(&random, 2) ? 1024 : -1024);
-        tally_case("level %u of block %u", k, block);
-        try_once(&made, &random);
-        made.steps[k] = 0;
-        tally_case("step %u", k);
-        try_once(&made, &random);
-        made_done(&made);
+    for (Bad kind = 0; kind < BAD_KINDS; kind++)
+        for (unsigned place = 0; place < BAD_PLACES; place++) {
+            Random random = random_of(options.seed, place);
+            Made made = made_bad(kind, place, &random);
+            Plain plain = plain_of(made_still(&made), BY_PROGRAMME);
+            LentStill lent = lend_still(plain.still);
+            tally_case("%s %u", names[kind], place);
+            try_price(&plain, &lent, 1, 0, made.blocks, &random);
+            lent_still_done(&lent);
+            plain_done(&plain);
+            made_done(&made);
+        }
+    tally_end();
+}
+
+/* The bad level, and the bit of a keep number that is bad, at every place. */
+static void thin_every_place(Options options)
+{
+    uint64_t keep[4] = {0};
+    tally_begin("thinning: a fault at every place");
+    for (unsigned place = 0; place < BAD_PLACES; place++) {
+        Random random = random_of(options.seed, place);
+        Made bad = made_bad(BAD_LEVEL, place, &random), zero = made_zero(4, 10);
+        tally_case("place %u", place);
+        try_thin(bad.levels, BAD_PLACES, keep, 4, &random);
+        keep[place / POSITIONS] = UINT64_C(1) << place % POSITIONS;
+        try_thin(zero.levels, BAD_PLACES, keep, 4, &random);
+        keep[place / POSITIONS] = 0;
+        made_done(&bad);
+        made_done(&zero);
     }
     tally_end();
 }
@@ -440,6 +490,7 @@ int main(int count, char **arguments)
     thinning(options);
     price_then_thin(options);
     thin_refusals(options);
+    thin_every_place(options);
     other_answers(options);
     null_pointers();
     return tally_finish();

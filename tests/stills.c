@@ -139,6 +139,28 @@ bool sound(const Made *made)
     return codable;
 }
 
+/* Whether a code that some level can use is missing. */
+static bool has_gap(const uint8_t *lengths)
+{
+    bool gap = false;
+    for (size_t entry = 0; entry < LENGTHS; entry++)
+        gap |= lengths[entry] == 0 && entry % 16 >= 1 && entry % 16 <= 10;
+    return gap;
+}
+
+void held_add(Held *held, const Made *made)
+{
+    uint8_t k5[LENGTHS];
+    k5_lengths(k5);
+    held->stills++;
+    held->blocks[made->blocks]++;
+    held->k5 += memcmp(made->lengths, k5, sizeof k5) == 0;
+    held->gaps += has_gap(made->lengths);
+    held->no_end += made->lengths[END_OF_BLOCK] == 0;
+    held->no_zeros += made->lengths[SIXTEEN_ZEROS] == 0;
+    held->uncodable += !sound(made);
+}
+
 Made made_sound(Random *random)
 {
     for (;;) {
@@ -230,6 +252,20 @@ Made made_large(Large kind, size_t blocks, Random *random)
         else
             made.levels[i] = signed_level(random, large_level(kind, random, k));
     }
+    return made;
+}
+
+/* ---- One bad place. ---- */
+
+Made made_bad(Bad kind, unsigned place, Random *random)
+{
+    Made made = made_zero(4, 10);
+    if (kind == BAD_LENGTH)
+        made.lengths[place] = (uint8_t)between(random, GREATEST_LENGTH + 1, 31);
+    else if (kind == BAD_STEP)
+        made.steps[place % POSITIONS] = 0;
+    else
+        made.levels[place] = signed_level(random, between(random, GREATEST_LEVEL + 1, 2047));
     return made;
 }
 

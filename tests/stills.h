@@ -30,14 +30,26 @@ typedef enum {
 
 extern const char *const large_names[LARGE_KINDS];
 
+/* What small stills held, counted. */
+typedef struct {
+    uint64_t stills, blocks[5], k5, gaps, no_end, no_zeros, uncodable;
+} Held;
+
+/* What can be bad at a place of a still of 4 blocks: each has 256 places, of which the steps take each four times. */
+typedef enum { BAD_LENGTH, BAD_STEP, BAD_LEVEL, BAD_KINDS } Bad;
+
+enum { BAD_PLACES = 256 };
+
 Still made_still(const Made *made);
 Made made_zero(size_t blocks, uint8_t step); /* Table K.5, all levels 0 */
 Made made_small(Random *random);             /* 1 to 4 blocks, at most 4,096 ways to choose */
 Made made_sound(Random *random);             /* the same, and every block has a codable choice */
 Made made_large(Large kind, size_t blocks, Random *random);
+Made made_bad(Bad kind, unsigned place, Random *random); /* by a value that a packet can hold; a DC is never bad */
 bool made_from_packet(const char *folder, const char *name, Made *made);
 bool made_from_raw(const char *folder, const char *name, Made *made);
 size_t read_file(const char *folder, const char *name, uint8_t *room, size_t size);
+void held_add(Held *held, const Made *made);
 bool sound(const Made *made); /* every block has a codable choice */
 void made_done(Made *made);
 

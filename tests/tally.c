@@ -4,17 +4,22 @@
 #include <stdarg.h>
 #include <string.h>
 
-enum { TOLD = 5, NUMBERS = 12 }; /* failures told in each group; refusal numbers, with 0 for accepted */
+enum { TOLD = 5, NUMBERS = 12, NOTES = 16 }; /* failures told in each group; refusal numbers, with 0 for accepted */
 
 static const char *group;
 static char at_hand[200];
 static uint64_t compared, failed, refusals[NUMBERS];
+static struct {
+    const char *what;
+    uint64_t count;
+} notes[NOTES];
+static size_t note_count;
 static unsigned groups_passed, groups_failed;
 
 void tally_begin(const char *name)
 {
     group = name;
-    compared = failed = 0;
+    compared = failed = note_count = 0;
     memset(refusals, 0, sizeof refusals);
     at_hand[0] = '\0';
 }
@@ -59,6 +64,27 @@ uint64_t tally_refusals(uint64_t number)
     return refusals[number];
 }
 
+void tally_note(const char *what, uint64_t count)
+{
+    tally(count > 0 && note_count < NOTES, "%s: never", what);
+    if (note_count < NOTES) {
+        notes[note_count].what = what;
+        notes[note_count++].count = count;
+    }
+}
+
+/* On lines of their own, of some hundred characters. */
+static void print_notes(void)
+{
+    int column = 100;
+    for (size_t i = 0; i < note_count; i++) {
+        if (i > 0)
+            column += printf(",");
+        column = column < 100 ? column + printf(" ") : printf("\n      ");
+        column += printf("%s: %ju", notes[i].what, (uintmax_t)notes[i].count);
+    }
+}
+
 static void print_refusals(void)
 {
     const char *before = "; refused by ";
@@ -71,16 +97,19 @@ static void print_refusals(void)
         }
 }
 
+/* A group in which nothing was compared has not passed. */
 void tally_end(void)
 {
-    if (failed == 0)
+    bool pass = failed == 0 && compared > 0;
+    if (pass)
         groups_passed++;
     else
         groups_failed++;
-    printf("%s  %s: %ju compared", failed == 0 ? "pass" : "FAIL", group, (uintmax_t)compared);
+    printf("%s  %s: %ju compared", pass ? "pass" : "FAIL", group, (uintmax_t)compared);
     if (failed > 0)
         printf(", %ju failed", (uintmax_t)failed);
     print_refusals();
+    print_notes();
     putchar('\n');
     fflush(stdout);
 }
