@@ -35,7 +35,8 @@ bool one_in(Random *random, uint64_t count)
 
 uint64_t any_size(Random *random, uint64_t greatest)
 {
-    uint64_t number = draw(random) >> below(random, 64);
+    uint64_t number = draw(random); /* drawn one after the other: C leaves open which operand comes first */
+    number >>= below(random, 64);
     return greatest == UINT64_MAX ? number : number % (greatest + 1);
 }
 
