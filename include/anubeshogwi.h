@@ -1,4 +1,10 @@
-/* Anubeshogwi: thins a still so that it fits its place in the slot. The call for the head-end. */
+/* Anubeshogwi: thins a still so that it fits its place in the slot. The call for the head-end.
+
+   Link with libheadend.a, x86-64 code for Linux that needs nothing else but memcpy and memset:
+
+     cc -o head_end head_end.c -lheadend
+
+   Its promise is proved for every input; docs/PROMISES.md tells what is proved, and where. */
 #ifndef ANUBESHOGWI_H
 #define ANUBESHOGWI_H
 
@@ -28,24 +34,24 @@ extern "C" {
    stays and is counted nowhere, so bit 0 is never set. In the buffer a keep number takes 8 bytes, most significant
    byte first: position 63 is the top bit of the first byte.
 
-   Bits
-   ----
+   Bits and error
+   --------------
    Counted are the bits that baseline Huffman coding of ITU-T T.81 takes for the AC coefficients, with the lengths of
-   the packet: not DC, not padding, not stuffed bytes, not markers. */
+   the packet: not DC, not padding, not stuffed bytes, not markers. The squared error is the sum of (level × step)²
+   over the levels that are dropped. */
 
-/* What anb_budget returns. Where several refusals apply, 11 is told before all others, then the lowest number. */
+/* What anb_budget returns: 0, or why the packet is refused. Where several refusals apply, 11 is told before all others,
+   then the lowest number. */
 enum {
-    ANB_ACCEPTED = 0,
+    ANB_ACCEPTED = 0,     /* all 8n bytes of keep have been written */
     ANB_BAD_STEP = 2,     /* a step is 0 */
     ANB_BAD_LENGTH = 3,   /* a code length is above 16 */
     ANB_BAD_KEEP = 5,     /* the buffer for the keep numbers is not 8n bytes long */
     ANB_BAD_LEVEL = 6,    /* an AC level is outside -1023 to 1023 */
     ANB_UNCODABLE = 7,    /* some block can't be coded with these lengths, whatever is dropped from it */
     ANB_OVER_BUDGET = 9,  /* however much is dropped, the still takes more bits than the budget */
-    ANB_BAD_PACKET = 11   /* the version is not 1, or the length is not 226 + 96n */
+    ANB_BAD_PACKET = 11   /* the version is not 1, or the length is not 226 + 96n for the packet's own n */
 };
-
-enum { ANB_STACK_BYTES = 512 * 1024 };
 
 /* Fits a packed still into a budget of bits: chooses, of the stops of the still (the pairs of bits and squared error
    that some two positive prices, one on error and one on bits, make strictly cheaper than all others), the one with
@@ -55,17 +61,22 @@ enum { ANB_STACK_BYTES = 512 * 1024 };
    budget               in bits; every 32-bit number is accepted
    keep, keep_len       8n bytes; gets the keep number of each block, in the order of the blocks
 
-   Returns, for every input, 0 when all 8n bytes have been written, or the number of the refusal; then nothing has
-   been written.
+   The call answers every input, and ends. It returns 0 when all 8n bytes of keep have been written, or the number of
+   the refusal; then nothing has been written anywhere.
 
-   Both buffers stay the caller's: the call keeps no pointer to them, allocates nothing and has no state. It may be
-   called from several threads at once, with separate keep buffers; nobody may write to the packet meanwhile. The two
-   buffers must not overlap. Neither needs to be aligned.
+   Who owns what: both buffers stay the caller's. The call keeps no pointer to them, and allocates nothing. They must not
+   overlap. Neither needs to be aligned.
 
-   A null pointer with length 0 is an empty buffer and is refused like one (11 for the packet, 5 for keep). A null
-   pointer with a length above 0, or a length beyond the buffer's, is the caller's fault, and the call can't notice.
+   Threads: the call has no state, takes no lock and may run in several threads at once, each with a keep buffer of its
+   own; nobody may write to the packet meanwhile.
 
-   Stack use: see docs/PERFORMANCE.md. */
+   Null pointers: with length 0 a null pointer is an empty buffer, and refused like one (11 for the packet, 5 for keep).
+   With a length above 0 a null pointer is the caller's fault, as is a length beyond the buffer's; the call can't notice.
+
+   Stack: at most ANB_STACK_BYTES of the caller's, the same for small packets and large ones. It is for the most part
+   numbers for each of 1,024 blocks, a still's most. Threads with a smaller stack than that can't call it. */
+enum { ANB_STACK_BYTES = 384 * 1024 };
+
 uint32_t anb_budget(const uint8_t *packet, size_t packet_len, uint32_t budget, uint8_t *keep, size_t keep_len);
 
 #ifdef __cplusplus
