@@ -10,7 +10,7 @@ need_rt
 need valgrind valgrind
 out=target/valgrind
 count=${COUNT:-20}
-export PORTABLE=1 CFLAGS=-g LIBRARY_CC="${CC:-cc}"
+export WATCHED=1 PORTABLE=1 CFLAGS=-g LIBRARY_CC="${CC:-cc}"
 
 # watched COMMAND...: fails at the first read or write that valgrind objects to
 watched() {
