@@ -119,10 +119,10 @@ module _ {B : ℕ → Block} {n : ℕ} where
       → x ≡ record { 0 = (total (pairAt bits error) n) .bits } → y ≡ record { 0 = (total (pairAt bits error) n) .error } → EndAt B n e bits error keep
   end-at w p q e f = record { won = won w; bits-are = ap (λ (z : Bits). z .0) (p ∙ e); error-is = ap (λ (z : Error). z .0) (q ∙ f) }
 
-  pub brackets : {budget : ℕ} {high : End} {cb ce ck lb le lk : List ℕ} {x : Bits} {y : Error} → high .price ≡ mostOnBits → EndAt B n high cb ce ck
-      → high .bits .0 ≤ budget → Winners B n 1 0 lb le lk → x ≡ record { 0 = (total (pairAt lb le) n) .bits } → y ≡ record { 0 = (total (pairAt lb le) n) .error }
-      → budget < x .0 → Brackets B n budget (record { low = record { price = 0; bits = x; error = y }; high = high }) cb ce ck lb le lk
-  brackets p h l w e f k = record { rises = omega (arith, p); most = omega (arith, p); high = h; low = end-at w refl refl e f; fits = l; passes = k }
+  pub brackets : {budget : ℕ} {low : End} {cb ce ck lb le lk : List ℕ} {x : Bits} {y : Error} → low .price ≡ 0 → EndAt B n low lb le lk
+      → budget < low .bits .0 → Winners B n 1 mostOnBits cb ce ck → x ≡ record { 0 = (total (pairAt cb ce) n) .bits } → y ≡ record { 0 = (total (pairAt cb ce) n) .error }
+      → x .0 ≤ budget → Brackets B n budget (record { low = low; high = record { price = mostOnBits; bits = x; error = y } }) cb ce ck lb le lk
+  brackets p l k w e f h = record { rises = omega (arith, p); most = omega arith; high = end-at w refl refl e f; low = l; fits = h; passes = k }
 
   pub walks : {budget low : ℕ} {cb ce ck gb ge gk run fall height far tree : List ℕ} {p : Point} → Reaches B n budget low cb ce ck gb ge gk
       → SetOut B n low (arrays cb ce ck run fall height far) tree → Sums n cb ce ck p → Walks B n low budget (arrays cb ce ck run fall height far) tree p

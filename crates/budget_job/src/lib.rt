@@ -9,12 +9,12 @@ use halving::Range;
 use price::Price;
 use winners::Outcome;
 ghost use mathlib.Core.Path.{_≡_};
-ghost use Prim.Native.Nat.{_/_, _≤_};
+ghost use Prim.Native.Nat.{_/_, _≤_, _<_};
 ghost use lib.ListN.{length};
 ghost use Rattle.attained.specs.Attained.{blockAt};
 ghost use Rattle.answers.specs.Said.{numberOf, saidPoint, refused as saidRefused};
 ghost use Rattle.still.specs.Sound.{Sound};
-ghost use Rattle.halving.specs.WonAt.{EndAt, RoomFor};
+ghost use Rattle.halving.specs.WonAt.{EndAt, Brackets, RoomFor};
 ghost use Rattle.fitting.specs.Fitting.{FitsThere};
 ghost use Rattle.budget_job.specs.BudgetJob.{Fitted, BudgetMeets};
 ghost use Rattle.budget_job.specs.Fitting.{Answered, Reaches};
@@ -135,21 +135,124 @@ fn walk_between(
     )
 }
 
-// The winners at the dearest price fit: either all levels do, or two prices bracket the budget.
-fn fit_above(
+// Two prices bracket the budget: the last corner between them that fits is the answer.
+fn fit_between(
     levels: &[i16],
     steps: &[u8],
     lengths: &[u8],
     budget: u64,
-    high: End,
+    given: Range,
     cb: &mut [u64],
     ce: &mut [u64],
     ck: &mut [u64],
+    lb: &mut [u64],
+    le: &mut [u64],
+    lk: &mut [u64],
     keep: &mut [u64],
 ) -> PointAnswer
     requires still { ⌜ Sound (now levels) (now steps) (now lengths) (length (now levels) / 64) ⌝ }
-    requires high { ⌜ (high .price ≡ 8000000000000) × EndAt (blockAt (now levels) (now steps) (now lengths)) (length (now levels) / 64) high (now cb) (now ce) (now ck) × (high .bits .0 ≤ budget) ⌝ }
-    requires room { ⌜ RoomFor (length (now levels) / 64) (now cb) (now ce) (now ck) × (length (now keep) ≡ length (now levels) / 64) ⌝ }
+    requires given { ⌜ Brackets (blockAt (now levels) (now steps) (now lengths)) (length (now levels) / 64) budget given (now cb) (now ce) (now ck) (now lb) (now le) (now lk) ⌝ }
+    requires room { ⌜ RoomFor (length (now levels) / 64) (now cb) (now ce) (now ck) × RoomFor (length (now levels) / 64) (now lb) (now le) (now lk) ⌝ }
+    requires keep { ⌜ length (now keep) ≡ length (now levels) / 64 ⌝ }
+    ensures { λ r. ⌜ Fitted (blockAt (now (levels .entry)) (now (steps .entry)) (now (lengths .entry))) (length (now (levels .entry)) / 64) budget (now (keep .entry)) r (now (keep .exit)) ⌝ }
+{
+    let range = halving::bracket(
+        levels,
+        steps,
+        lengths,
+        budget,
+        given,
+        cb,
+        ce,
+        ck,
+        lb,
+        le,
+        lk,
+    );
+    let p = walk_between(
+        levels,
+        steps,
+        lengths,
+        budget,
+        range.low.price,
+        cb,
+        ce,
+        ck,
+        lb,
+        le,
+        lk,
+    );
+    answer(p, ck, keep)
+}
+
+// The winners at the free price pass the budget: those at the dearest fit it, or nothing does.
+fn fit_below(
+    levels: &[i16],
+    steps: &[u8],
+    lengths: &[u8],
+    budget: u64,
+    low: End,
+    lb: &mut [u64],
+    le: &mut [u64],
+    lk: &mut [u64],
+    keep: &mut [u64],
+) -> PointAnswer
+    requires still { ⌜ Sound (now levels) (now steps) (now lengths) (length (now levels) / 64) ⌝ }
+    requires low { ⌜ (low .price ≡ 0) × EndAt (blockAt (now levels) (now steps) (now lengths)) (length (now levels) / 64) low (now lb) (now le) (now lk) × (budget < low .bits .0) ⌝ }
+    requires room { ⌜ RoomFor (length (now levels) / 64) (now lb) (now le) (now lk) ⌝ }
+    requires keep { ⌜ length (now keep) ≡ length (now levels) / 64 ⌝ }
+    ensures { λ r. ⌜ Fitted (blockAt (now (levels .entry)) (now (steps .entry)) (now (lengths .entry))) (length (now (levels .entry)) / 64) budget (now (keep .entry)) r (now (keep .exit)) ⌝ }
+{
+    let mut cb = [0u64; 1024];
+    let mut ce = [0u64; 1024];
+    let mut ck = [0u64; 1024];
+    match winners::winners(
+        levels,
+        steps,
+        lengths,
+        Price::DEAREST,
+        &mut cb,
+        &mut ce,
+        &mut ck,
+    ) {
+        Outcome::Uncodable(i) => refused(Kind::Uncodable, i as u64),
+        Outcome::All(bits, error) => {
+            if budget < bits.0 {
+                return refused(Kind::Budget, bits.0);
+            }
+            let high = End {
+                price: 8000000000000,
+                bits,
+                error,
+            };
+            fit_between(
+                levels,
+                steps,
+                lengths,
+                budget,
+                Range { low, high },
+                &mut cb,
+                &mut ce,
+                &mut ck,
+                lb,
+                le,
+                lk,
+                keep,
+            )
+        }
+    }
+}
+
+// Everything fits if the winners at the free price do.
+fn fit_still(
+    levels: &[i16],
+    steps: &[u8],
+    lengths: &[u8],
+    budget: u64,
+    keep: &mut [u64],
+) -> PointAnswer
+    requires still { ⌜ Sound (now levels) (now steps) (now lengths) (length (now levels) / 64) ⌝ }
+    requires room { ⌜ length (now keep) ≡ length (now levels) / 64 ⌝ }
     ensures { λ r. ⌜ Fitted (blockAt (now (levels .entry)) (now (steps .entry)) (now (lengths .entry))) (length (now (levels .entry)) / 64) budget (now (keep .entry)) r (now (keep .exit)) ⌝ }
 {
     let mut lb = [0u64; 1024];
@@ -182,79 +285,15 @@ fn fit_above(
                 bits,
                 error,
             };
-            let range = halving::bracket(
+            fit_below(
                 levels,
                 steps,
                 lengths,
                 budget,
-                Range { low, high },
-                cb,
-                ce,
-                ck,
+                low,
                 &mut lb,
                 &mut le,
                 &mut lk,
-            );
-            let p = walk_between(
-                levels,
-                steps,
-                lengths,
-                budget,
-                range.low.price,
-                cb,
-                ce,
-                ck,
-                &lb,
-                &le,
-                &lk,
-            );
-            answer(p, ck, keep)
-        }
-    }
-}
-
-fn fit_still(
-    levels: &[i16],
-    steps: &[u8],
-    lengths: &[u8],
-    budget: u64,
-    keep: &mut [u64],
-) -> PointAnswer
-    requires still { ⌜ Sound (now levels) (now steps) (now lengths) (length (now levels) / 64) ⌝ }
-    requires room { ⌜ length (now keep) ≡ length (now levels) / 64 ⌝ }
-    ensures { λ r. ⌜ Fitted (blockAt (now (levels .entry)) (now (steps .entry)) (now (lengths .entry))) (length (now (levels .entry)) / 64) budget (now (keep .entry)) r (now (keep .exit)) ⌝ }
-{
-    let mut cb = [0u64; 1024];
-    let mut ce = [0u64; 1024];
-    let mut ck = [0u64; 1024];
-    match winners::winners(
-        levels,
-        steps,
-        lengths,
-        Price::DEAREST,
-        &mut cb,
-        &mut ce,
-        &mut ck,
-    ) {
-        Outcome::Uncodable(i) => refused(Kind::Uncodable, i as u64),
-        Outcome::All(bits, error) => {
-            if budget < bits.0 {
-                return refused(Kind::Budget, bits.0);
-            }
-            let high = End {
-                price: 8000000000000,
-                bits,
-                error,
-            };
-            fit_above(
-                levels,
-                steps,
-                lengths,
-                budget,
-                high,
-                &mut cb,
-                &mut ce,
-                &mut ck,
                 keep,
             )
         }

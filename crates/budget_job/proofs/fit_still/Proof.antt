@@ -1,11 +1,10 @@
--- `budget_job::fit_still` meets its contract: nothing fits, or the winners at the dearest price do.
+-- `budget_job::fit_still` meets its contract: everything fits, or the winners at the free price pass the budget.
 -- Assumes nothing.
-use mathlib.Core.Path.{refl, ap}
+use mathlib.Core.Path.{refl}
 use native.Mathlib.Omega.{arith}
-use Rattle.price.specs.declared.Bits.{Bits}
 use Rattle.winners.proofs.Told.{told-uncodable, told-all}
 use Rattle.budget_job.specs.BudgetJob.{uncodable}
-use Rattle.budget_job.proofs.Reaching.{none-fits, end-at, roomy, sound-limits}
+use Rattle.budget_job.proofs.Reaching.{all-fit, end-at, roomy}
 use borrow.Author.Needs.{needs}
 use Rattle.budget_job.proofs.fit_still.Statement.{statement}
 use Rattle.budget_job.proofs.fit_still.Tie as tie
@@ -20,7 +19,10 @@ slice-aggregate-winners-3 : tie.Need-slice-aggregate-winners-3
 slice-aggregate-winners-3 c = search needs
 
 winners-requires : tie.Need-winners-requires
-winners-requires c κs = let p = c .before .before .before .before .before .before .pre in let few = p .0 .still .most in (p .0, (record { a-low = omega arith; a-high = omega arith; b-high = omega arith }, (few, few, few)))
+winners-requires c κs =
+    let p = c .before .before .before .before .before .before .pre in
+    let few = p .0 .still .most in
+    (p .0, (record { a-low = omega arith; a-high = omega arith; b-high = omega arith }, (few, few, few)))
 
 enum-known-i : tie.Need-enum-known-i
 enum-known-i c = search needs
@@ -31,25 +33,31 @@ refused-requires c κs = search needs
 enum-known-bits : tie.Need-enum-known-bits
 enum-known-bits c = search needs
 
-refused-requires-2 : tie.Need-refused-requires-2
-refused-requires-2 c κs = search needs
+slice-aggregate-answer : tie.Need-slice-aggregate-answer
+slice-aggregate-answer c = search needs
+
+answer-requires : tie.Need-answer-requires
+answer-requires c κs = search needs
+
+same-length : tie.Need-same-length
+same-length c = search needs
 
 returns : tie.Need-returns
 returns c =
-    let t = told-all (c .before .before .before .before .before .before .before .before .before .winners .ensures) (c .before .before .before .before .bits .given .1) in
-    none-fits (sound-limits (c .before .before .before .before .before .before .before .before .before .before .before .before .before .before .before .before .pre .0)) (t .0) (ap (λ (z : Bits). z .0) (t .1)) (c .before .if1 .taken) (c .refused2 .ensures)
+    let t = told-all (c .before .before .before .before .before .before .before .before .before .before .before .before .before .winners .ensures) (c .before .before .before .before .before .before .before .before .bits .given .1) in
+    all-fit (t .0) (t .1) (t .2) (c .before .before .before .before .before .if1 .taken) (c .before .before .before .before .before .before .before .before .before .before .before .before .before .before .before .before .before .before .before .before .pre .1) (c .before .before .answer .ensures)
 
-slice-aggregate-fit-above : tie.Need-slice-aggregate-fit-above
-slice-aggregate-fit-above c = search needs
+slice-aggregate-fit-below : tie.Need-slice-aggregate-fit-below
+slice-aggregate-fit-below c = search needs
 
-slice-aggregate-fit-above-2 : tie.Need-slice-aggregate-fit-above-2
-slice-aggregate-fit-above-2 c = search needs
+slice-aggregate-fit-below-2 : tie.Need-slice-aggregate-fit-below-2
+slice-aggregate-fit-below-2 c = search needs
 
-slice-aggregate-fit-above-3 : tie.Need-slice-aggregate-fit-above-3
-slice-aggregate-fit-above-3 c = search needs
+slice-aggregate-fit-below-3 : tie.Need-slice-aggregate-fit-below-3
+slice-aggregate-fit-below-3 c = search needs
 
-fit-above-requires : tie.Need-fit-above-requires
-fit-above-requires c κs =
+fit-below-requires : tie.Need-fit-below-requires
+fit-below-requires c κs =
     let p = c .before .before .before .before .before .before .before .before .before .before .before .before .before .before .before .before .before .before .before .pre in
     let few = p .0 .still .most in
     let w = c .before .before .before .before .before .before .before .before .before .before .before .before .winners in
@@ -64,8 +72,8 @@ fit-above-requires c κs =
 returns-2 : tie.Need-returns-2
 returns-2 c = uncodable _ (told-uncodable (c .before .before .before .before .before .before .before .winners .ensures) (c .before .before .i .given .1)) (c .refused .ensures) refl
 
-same-length : tie.Need-same-length
-same-length c = search needs
+same-length-2 : tie.Need-same-length-2
+same-length-2 c = search needs
 
 returns-3 : tie.Need-returns-3
 returns-3 c = search needs
@@ -81,12 +89,14 @@ fit-still-spec =
     enum-known-i
     refused-requires
     enum-known-bits
-    refused-requires-2
-    returns
-    slice-aggregate-fit-above
-    slice-aggregate-fit-above-2
-    slice-aggregate-fit-above-3
-    fit-above-requires
-    returns-2
+    slice-aggregate-answer
+    answer-requires
     same-length
+    returns
+    slice-aggregate-fit-below
+    slice-aggregate-fit-below-2
+    slice-aggregate-fit-below-3
+    fit-below-requires
+    returns-2
+    same-length-2
     returns-3)
