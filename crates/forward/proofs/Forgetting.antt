@@ -4,17 +4,20 @@ use mathlib.Core.Path.{_≡_, subst, ap, _∙_}
 use mathlib.Core.Bool.{Bool, true, false}
 use mathlib.Core.List.{List}
 use Prim.Native.Nat.{ℕ, _+_, _-_, _*_, _≤_, _<_}
-use native.Mathlib.Nat.{mul-le-mul-left}
+use native.Mathlib.Nat.{mul-le-mul, mul-le-mul-left}
 use native.Mathlib.Decide.{decLt}
 use native.Mathlib.Omega.{arith}
 use borrow.Author.Tests.{ne-eqb}
+use mir.Syntax.{w64}
+use mir.Val.{Fits}
 use lib.Dec.{eqb}
 use lib.ListN.{getD, set}
 use lib.Seq.{getD-set-other}
 use Rattle.block.specs.First.{pick}
 use Rattle.block.specs.Block.{Block}
-use Rattle.forward.specs.Given.{SAVED, Entry, Entry.some as t-some, Entry.none as t-none, isFull, Given}
-use Rattle.forward.specs.Scanning.{FAR, from, bound, costAt, Ahead, Ahead.cheaper, Ahead.shorter, Ahead.earlier, Earliest, Earliest.none as e-none, Earliest.some as e-some, Beats, Behind, Outdone, Beaten, Forgot, Reduced}
+use Rattle.price.specs.Price.{mostOnBits}
+use Rattle.forward.specs.Given.{NO, SAVED, Entry, Entry.some as t-some, Entry.none as t-none, isFull, Given}
+use Rattle.forward.specs.Scanning.{FAR, from, bound, costAt, Ahead, Ahead.cheaper, Ahead.shorter, Ahead.earlier, Earliest, Earliest.none as e-none, Earliest.some as e-some, Beats, Behind, Outdone, Beaten, Costs, Forgot, Reduced}
 use Rattle.forward.proofs.Pricing.{full-priced, full-there}
 use Rattle.forward.proofs.Scanning.{from-below, from-on}
 
@@ -124,6 +127,17 @@ module _ (B : Block) (m total : ℕ) (place sizes errors bits : List ℕ) (G : G
       go (t-some p q) (t-some u v) = omega (arith, end-most (eqb (getD place k 0) 63), later)
       go (t-none p q) e = absurd (full-there bits (63 - getD place k 0) f (omega arith) q)
       go (t-some p q) (t-none u v) = absurd (full-there bits (63 - getD place j 0) f (omega arith) v)
+
+-- the bound fits in 64 bits
+module _ {b low i : ℕ} {costs bits : List ℕ} (C : Costs b low i costs bits) (x : ℕ) where
+  product-most : b * getD bits x 0 ≤ mostOnBits * NO
+  product-most = mul-le-mul (C .b-most) (C .bits-most x)
+
+  pub product-fits : Fits w64 (b * getD bits x 0)
+  product-fits = record { fits = omega (arith, product-most) }
+
+  pub bound-fits : Fits w64 (getD costs i 0 + b * getD bits x 0)
+  bound-fits = record { fits = omega (arith, product-most, C .cost-most) }
 
 -- forgetting by node i, one node after the other
 module _ {b low i : ℕ} {costs bits : List ℕ} where

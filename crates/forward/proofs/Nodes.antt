@@ -16,7 +16,7 @@ use Rattle.price.specs.Best.{Way, Before, NoChoice}
 use Rattle.forward.specs.declared.Chosen.{Chosen}
 use Rattle.forward.specs.declared.Decision.the-variants as decision
 use Rattle.forward.specs.Decision.{OfBest}
-use Rattle.forward.specs.Given.{SAVED, Given, Job, Decided, Room}
+use Rattle.forward.specs.Given.{Given, Job, Decided, Room}
 use Rattle.forward.specs.Chain.{top, Chain, Coded, miss, stem, Candidate}
 use Rattle.forward.specs.Scanning.{FAR, costAt, bitAt, Span, Sums, Earliest, Behind, Beaten, Costs, Reduced, Trail, Node, Node.some as n-some, Nodes, gain, Backed, Walked, Walks}
 use Rattle.forward.proofs.Chain.{start, finish, finish-none, onto, endBits, way-onto, miss-more, keep-under}
@@ -75,7 +75,7 @@ module _ {a b m total : ℕ} {place sizes errors bits : List ℕ} where
           cost-long = length-set costs i y ∙ N .cost-long;
           bits-long = J .given .table .long;
           cost-most = omega (arith, getD-set-same costs i y 0 (omega (arith, N .cost-long, inside)));
-          saved-most = J .given .table .most SAVED;
+          bits-most = J .given .table .most;
         }
       where
         inside : i < 64

@@ -111,7 +111,7 @@ pub record Costs (b low i : ℕ) (costs bits : List ℕ) : Type 0 where
   pub cost-long : length costs ≡ 64
   pub bits-long : length bits ≡ 704
   pub cost-most : getD costs i 0 ≤ FAR
-  pub saved-most : getD bits SAVED 0 ≤ NO
+  pub bits-most : (x : ℕ) → getD bits x 0 ≤ NO
 
 pub record Forgot (b low i : ℕ) (costs bits : List ℕ) (r : ℕ) : Type 0 where
   pub from-low : low ≤ r

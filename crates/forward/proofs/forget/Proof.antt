@@ -2,11 +2,10 @@
 -- Assumes nothing.
 use mathlib.Core.Path.{sym, _∙_}
 use Prim.Native.Nat.{_+_, _-_}
-use native.Mathlib.Nat.{mul-le-mul}
 use native.Mathlib.Omega.{arith}
 use borrow.Author.Tests.{not-false}
 use Rattle.forward.specs.Scanning.{Forgot}
-use Rattle.forward.proofs.Forgetting.{forgot-start, forgot-next}
+use Rattle.forward.proofs.Forgetting.{product-fits, bound-fits, forgot-start, forgot-next}
 use Rattle.forward.proofs.forget.Statement.{statement}
 use Rattle.forward.proofs.forget.Tie as tie
 
@@ -29,10 +28,10 @@ shared-slice-read-bound-2 : tie.Need-shared-slice-read-bound-2 Inv-loop μ-loop
 shared-slice-read-bound-2 c = omega (arith, c .before .before .before .pre .1 .bits-long)
 
 mul-bound-2 : tie.Need-mul-bound-2 Inv-loop μ-loop
-mul-bound-2 c = omega (arith, mul-le-mul (c .before .before .before .pre .1 .b-most) (c .before .before .before .pre .1 .saved-most))
+mul-bound-2 c = product-fits (c .before .before .before .pre .1) _
 
 add-bound : tie.Need-add-bound Inv-loop μ-loop
-add-bound c = let s = c .before .before .before in omega (arith, s .pre .1 .cost-most, mul-le-mul (s .pre .1 .b-most) (s .pre .1 .saved-most))
+add-bound c = bound-fits (c .before .before .before .pre .1) _
 
 loop-holds : tie.Need-loop-holds Inv-loop μ-loop
 loop-holds c = forgot-start (c .before .before .before .pre .1 .most)
