@@ -1,2 +1,4 @@
+pub mod Lent
+pub mod Bits
 pub mod Thinning
 pub mod Unique

@@ -1,1 +1,2 @@
 pub mod ThinJob
+pub mod Parts

@@ -1,66 +1,73 @@
--- `thin_job::drop_levels` meets its contract: the places passed are thinned, and those to come are as they were.
+-- `thin_job::drop_levels` meets its contract: the blocks passed are thinned, and those to come are as they were.
 -- Assumes nothing.
-use mathlib.Core.Path.{_≡_, refl, sym, _∙_}
-use mathlib.Core.Logic.{⊎-elim}
+use mathlib.Core.Path.{_≡_}
 use Prim.Native.Nat.{_+_, _*_, _-_, _≤_}
 use native.Mathlib.Omega.{arith}
+use lib.ListN.{length}
 use borrow.Author.Needs.{needs}
-use lib.ListN.{length, length-set}
-use Rattle.thin_job.proofs.Thinning.{ThinnedTo, begun, drops, keeps, ended}
+use Rattle.thin_job.specs.ThinJob.{stays}
+use Rattle.thin_job.proofs.Bits.{block-stays}
+use Rattle.thin_job.proofs.Thinning.{ThinnedTo, begun, part-more, ended}
 use Rattle.thin_job.proofs.drop_levels.Statement.{statement}
 use Rattle.thin_job.proofs.drop_levels.Tie as tie
 
 abbrev Inv-loop : tie.InvT-loop
-Inv-loop levels₀ keep i₀ levels i =
-    (i ≤ length levels) × (length levels ≡ 64 * length keep) × (length keep ≤ 1024) × ThinnedTo levels₀ keep i levels
+Inv-loop levels₀ keep b₀ levels b = (b ≤ length keep) × ThinnedTo (stays keep) levels₀ (64 * b) levels
 
 abbrev μ-loop : tie.MeasureT-loop
-μ-loop levels₀ keep i₀ levels i = length levels - i
+μ-loop levels₀ keep b₀ levels b = length keep - b
 
 loop-holds : tie.Need-loop-holds Inv-loop μ-loop
-loop-holds c = (search needs, search needs, search needs, begun _ _)
+loop-holds c = (search needs, begun _ _)
 
-mul-is-dropped : tie.Need-mul-is-dropped Inv-loop μ-loop
-mul-is-dropped c = search needs
+mul-thin-block : tie.Need-mul-thin-block Inv-loop μ-loop
+mul-thin-block c = search needs
 
-shared-slice-read-is-dropped : tie.Need-shared-slice-read-is-dropped Inv-loop μ-loop
-shared-slice-read-is-dropped c = search needs
+mul-thin-block-2 : tie.Need-mul-thin-block-2 Inv-loop μ-loop
+mul-thin-block-2 c = search needs
 
-is-dropped-requires : tie.Need-is-dropped-requires Inv-loop μ-loop
-is-dropped-requires c κs = search needs
+add-thin-block : tie.Need-add-thin-block Inv-loop μ-loop
+add-thin-block c = search needs
 
-mul-levels : tie.Need-mul-levels Inv-loop μ-loop
-mul-levels c = search needs
+mul-thin-block-3 : tie.Need-mul-thin-block-3 Inv-loop μ-loop
+mul-thin-block-3 c = search needs
 
-slice-set-of-levels : tie.Need-slice-set-of-levels Inv-loop μ-loop
-slice-set-of-levels c = search needs
+sub-thin-block : tie.Need-sub-thin-block Inv-loop μ-loop
+sub-thin-block c = search needs
 
--- where the arms meet: the length, and the places passed
-met : (c : tie.Joined1 Inv-loop μ-loop) → (length (c .if1 .levels) ≡ length (c .before .before .before .before .loop .levels))
-    × ThinnedTo (c .before .before .before .before .before .before .args .levels .now) (c .before .before .before .before .before .before .args .keep .now)
-    (c .before .before .before .before .loop .i + 1) (c .if1 .levels)
-met c =
-    let v = c .before .before .before .before .loop .inv in
-    let l = c .before .before .before .loop-test .taken in
-    ⊎-elim
-    (λ w. rw (w .1) (simp length-set, drops (v .3) (omega (arith, v .3 .count)) (sym (c .before .is-dropped .ensures) ∙ w .0 .taken)))
-    (λ w. rw (w .1) (refl, keeps (v .3) (sym (c .before .is-dropped .ensures) ∙ w .0 .left)))
-    (c .if1 .came)
+part-thin-block-start : tie.Need-part-thin-block-start Inv-loop μ-loop
+part-thin-block-start c = search needs
 
-add-i : tie.Need-add-i Inv-loop μ-loop
-add-i c = search needs
+part-thin-block-end : tie.Need-part-thin-block-end Inv-loop μ-loop
+part-thin-block-end c = search needs
+
+mul-thin-block-4 : tie.Need-mul-thin-block-4 Inv-loop μ-loop
+mul-thin-block-4 c = search needs
+
+shared-slice-read-thin-block : tie.Need-shared-slice-read-thin-block Inv-loop μ-loop
+shared-slice-read-thin-block c = search needs
+
+thin-block-requires : tie.Need-thin-block-requires Inv-loop μ-loop
+thin-block-requires c κs = search needs
+
+add-b : tie.Need-add-b Inv-loop μ-loop
+add-b c = search needs
 
 loop-less : tie.Need-loop-less Inv-loop μ-loop
-loop-less c = omega (arith, met c .0)
+loop-less c = search needs
 
 loop-again : tie.Need-loop-again Inv-loop μ-loop
-loop-again c = (omega (arith, met c .0), omega (arith, met c .0), search needs, met c .1)
+loop-again c =
+    let t = c .before .before .before .before .before in
+    let next : 64 * (t .loop .b + 1) ≡ 64 * t .loop .b + 64 = omega arith in
+    (search needs, rw next (part-more (t .loop .inv .1) (omega arith) (omega (arith, t .before .before .pre)) (c .before .thin-block .ensures) (λ k h. block-stays (t .before .before .args .keep .now) _ k (omega arith))))
 
 same-length : tie.Need-same-length Inv-loop μ-loop
 same-length c = search needs
 
 returns : tie.Need-returns Inv-loop μ-loop
-returns c = ended (c .before .loop .inv .3) (omega (arith, c .before .loop .inv .3 .count))
+returns c =
+    let p = ended (c .before .loop .inv .1) (omega (arith, c .before .before .before .pre)) in record { count = p .count; each = p .each }
 
 pub drop-levels-spec : {M : Type 1} → statement M
 drop-levels-spec =
@@ -69,12 +76,17 @@ drop-levels-spec =
     Inv-loop
     μ-loop
     loop-holds
-    mul-is-dropped
-    shared-slice-read-is-dropped
-    is-dropped-requires
-    mul-levels
-    slice-set-of-levels
-    add-i
+    mul-thin-block
+    mul-thin-block-2
+    add-thin-block
+    mul-thin-block-3
+    sub-thin-block
+    part-thin-block-start
+    part-thin-block-end
+    mul-thin-block-4
+    shared-slice-read-thin-block
+    thin-block-requires
+    add-b
     loop-less
     loop-again
     same-length

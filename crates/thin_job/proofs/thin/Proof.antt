@@ -32,7 +32,7 @@ lengths c =
     (omega (arith, f .0 .count, f .1 .count), omega (arith, f .0 .most, f .1 .count))
 
 drop-levels-requires : tie.Need-drop-levels-requires
-drop-levels-requires c κs = lengths (c .before)
+drop-levels-requires c κs = lengths (c .before) .0
 
 kept-requires : tie.Need-kept-requires
 kept-requires c κs = lengths (c .before .before .before) .1
