@@ -28,7 +28,7 @@ case ${2:-} in
     ;;
 head_end) $library_cc $flags -o "$out/head_end" "$example" "$3" ;;
 *)
-    $library_cc $flags -pthread -I"$top/bench" -o "$out/$2" "$here/$2.c" "$here/faults.c" "$here/lent.c" "$here/tally.c" \
-        "$top/bench/stack.c" $made "$3"
+    $library_cc $flags -pthread -I"$top/bench" -o "$out/$2" "$here/$2.c" "$here/groups.c" "$here/faults.c" "$here/lent.c" \
+        "$here/tally.c" "$top/bench/stack.c" $made "$3"
     ;;
 esac

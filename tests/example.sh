@@ -11,22 +11,10 @@ tools=$1
 program=$2
 cd "$(dirname "$0")/.."
 . tests/machine.sh
+. tests/settle.sh
 samples=${SAMPLES:-samples}
 room=$(mktemp -d)
 trap 'rm -rf "$room"' EXIT
-passed=0
-failed=0
-
-# settle NAME COMPARED WRONG: one group
-settle() {
-    if [ "$2" -gt 0 ] && [ "$3" -eq 0 ]; then
-        echo "pass  $1: $2 compared"
-        passed=$((passed + 1))
-    else
-        echo "FAIL  $1: $2 compared, $3 failed"
-        failed=$((failed + 1))
-    fi
-}
 
 # same PACKET BUDGET: both print the same and end with the same status
 same() {

@@ -2,10 +2,9 @@
    Run as: headend [count [seed [samples]]]. */
 #include "anubeshogwi.h"
 #include "faults.h"
+#include "groups.h"
 #include "lent.h"
-#include "options.h"
 #include "stack.h"
-#include "stills.h"
 #include "tally.h"
 
 #include <stdlib.h>
@@ -113,20 +112,10 @@ static void small_stills(Options options)
     tally_end();
 }
 
-static void large_stills(Options options)
+static void try_large(Made *made, Random *random)
 {
-    static const size_t blocks[] = {1, 7, 64, MOST_PACKED};
-    tally_begin("head-end: large stills, by the dynamic programme");
-    for (size_t size = 0; size < large_sizes(options); size++)
-        for (Large kind = 0; kind < LARGE_KINDS; kind++) {
-            Random random = random_of(options.seed, 1000 * kind + blocks[size]);
-            Made made = made_large(kind, blocks[size], &random);
-            narrow_dc(&made);
-            tally_case("%zu blocks, %s", blocks[size], large_names[kind]);
-            try_still(&made, BY_PROGRAMME, blocks[size] <= 64 ? 10 : 3, &random);
-            made_done(&made);
-        }
-    tally_end();
+    narrow_dc(made);
+    try_still(made, BY_PROGRAMME, made->blocks <= 64 ? 10 : 3, random);
 }
 
 static const char *const packets[] = {"camera_q50.pkt", "astronaut_q50.pkt", "camera_q90.pkt"};
@@ -292,21 +281,11 @@ static void refusals(Options options)
 }
 
 /* Each field of a packet can be the bad one. */
-static void every_place(Options options)
+static void try_bad(Made *made, Random *random)
 {
-    static const char *const names[BAD_KINDS] = {"length", "step", "level"};
     uint8_t packet[PACKED_HEAD + 4 * PACKED_BLOCK];
-    tally_begin("head-end: a fault at every place");
-    for (Bad kind = 0; kind < BAD_KINDS; kind++)
-        for (unsigned place = 0; place < BAD_PLACES; place++) {
-            Random random = random_of(options.seed, place);
-            Made made = made_bad(kind, place, &random);
-            size_t length = pack(made_still(&made), packet);
-            tally_case("%s %u", names[kind], place);
-            try_budget(packet, length, UINT32_MAX, 8 * made.blocks, &random);
-            made_done(&made);
-        }
-    tally_end();
+    size_t length = pack(made_still(made), packet);
+    try_budget(packet, length, UINT32_MAX, 8 * made->blocks, random);
 }
 
 static void told(const uint8_t *packet, size_t packet_len, uint32_t expected)
@@ -372,13 +351,13 @@ int main(int count, char **arguments)
 {
     Options options = options_of(count, arguments, 3000);
     small_stills(options);
-    large_stills(options);
+    on_large("head-end: large stills, by the dynamic programme", (const size_t[]){1, 7, 64, MOST_PACKED}, options, try_large);
     real_packets(options);
     every_length(options);
     every_header_bit(options);
     random_bytes(options);
     refusals(options);
-    every_place(options);
+    on_bad("head-end: a fault at every place", options, try_bad);
     null_pointers(options);
     if (getenv("WATCHED") == NULL) /* valgrind objects to looking at a stack that was left */
         stack_use(options);

@@ -1,10 +1,9 @@
 /* The list and budget jobs from outside, held against the independent implementation.
    Run as: lists [count [seed [samples]]]. */
 #include "faults.h"
+#include "groups.h"
 #include "lent.h"
-#include "options.h"
 #include "probe.h"
-#include "stills.h"
 #include "tally.h"
 
 /* ---- One call. ---- */
@@ -104,7 +103,7 @@ static void small_stills(Options options)
 
 /* ---- Large and real stills, by the dynamic programme. ---- */
 
-static void try_large(const Made *made, Random *random, unsigned count)
+static void try_corners(const Made *made, Random *random, unsigned count)
 {
     Plain plain = plain_of(made_still(made), BY_PROGRAMME);
     LentStill lent = lend_still(plain.still);
@@ -120,38 +119,14 @@ static void try_large(const Made *made, Random *random, unsigned count)
     plain_done(&plain);
 }
 
-static void large_stills(Options options)
+static void try_large(Made *made, Random *random)
 {
-    static const size_t blocks[] = {1, 16, 256, MOST_BLOCKS};
-    tally_begin("list and budget: large stills, by the dynamic programme");
-    for (size_t size = 0; size < large_sizes(options); size++)
-        for (Large kind = 0; kind < LARGE_KINDS; kind++) {
-            Random random = random_of(options.seed, 1000 * kind + blocks[size]);
-            Made made = made_large(kind, blocks[size], &random);
-            tally_case("%zu blocks, %s", blocks[size], large_names[kind]);
-            try_large(&made, &random, blocks[size] <= 16 ? 10 : 1);
-            made_done(&made);
-        }
-    tally_end();
+    try_corners(made, random, made->blocks <= 16 ? 10 : 1);
 }
 
-static void real_stills(Options options)
+static void try_real(Made *made, Random *random)
 {
-    static const char *const names[] = {"camera_q50.pkt", "astronaut_q50.pkt", "camera_q90.pkt", "camera_q75.raw",
-                                        "astronaut_q90.raw"};
-    tally_begin("list and budget: real stills");
-    for (size_t i = 0; i < 5; i++) {
-        Random random = random_of(options.seed, i);
-        Made made;
-        bool read = i < 3 ? made_from_packet(options.samples, names[i], &made)
-                          : made_from_raw(options.samples, names[i], &made);
-        tally_case("%s", names[i]);
-        if (!tally(read, "can't be read"))
-            continue;
-        try_large(&made, &random, 20);
-        made_done(&made);
-    }
-    tally_end();
+    try_corners(made, random, 20);
 }
 
 /* ---- Refusals. ---- */
@@ -192,24 +167,14 @@ static void refusals(Options options, bool list)
 }
 
 /* Each place of each slice can be the bad one, and is told. */
-static void every_place(Options options)
+static void try_bad(Made *made, Random *random)
 {
-    static const char *const names[BAD_KINDS] = {"length", "step", "level"};
-    tally_begin("list and budget: a fault at every place");
-    for (Bad kind = 0; kind < BAD_KINDS; kind++)
-        for (unsigned place = 0; place < BAD_PLACES; place++) {
-            Random random = random_of(options.seed, place);
-            Made made = made_bad(kind, place, &random);
-            Plain plain = plain_of(made_still(&made), BY_PROGRAMME);
-            LentStill lent = lend_still(plain.still);
-            tally_case("%s %u", names[kind], place);
-            try_list(&plain, &lent, 3, &random);
-            try_fit(&plain, &lent, UINT32_MAX, made.blocks, &random);
-            lent_still_done(&lent);
-            plain_done(&plain);
-            made_done(&made);
-        }
-    tally_end();
+    Plain plain = plain_of(made_still(made), BY_PROGRAMME);
+    LentStill lent = lend_still(plain.still);
+    try_list(&plain, &lent, 3, random);
+    try_fit(&plain, &lent, UINT32_MAX, made->blocks, random);
+    lent_still_done(&lent);
+    plain_done(&plain);
 }
 
 /* ---- The edges of the calls. ---- */
@@ -297,11 +262,12 @@ int main(int count, char **arguments)
 {
     Options options = options_of(count, arguments, 3000);
     small_stills(options);
-    large_stills(options);
-    real_stills(options);
+    on_large("list and budget: large stills, by the dynamic programme", (const size_t[]){1, 16, 256, MOST_BLOCKS}, options,
+             try_large);
+    on_real("list and budget: real stills", options, try_real);
     refusals(options, true);
     refusals(options, false);
-    every_place(options);
+    on_bad("list and budget: a fault at every place", options, try_bad);
     at_the_wall(options);
     other_answers(options);
     null_pointers();

@@ -1,10 +1,9 @@
 /* The price and thinning jobs from outside, held against the independent implementation.
    Run as: price [count [seed [samples]]]. */
 #include "faults.h"
+#include "groups.h"
 #include "lent.h"
-#include "options.h"
 #include "probe.h"
-#include "stills.h"
 #include "tally.h"
 
 #include <string.h>
@@ -203,7 +202,7 @@ static void try_block_slopes(Plain *plain, const LentStill *lent, Random *random
     stops_done(&stops);
 }
 
-static void try_large(const Made *made, Random *random, unsigned count)
+static void try_prices(const Made *made, Random *random, unsigned count)
 {
     Plain plain = plain_of(made_still(made), BY_PROGRAMME);
     LentStill lent = lend_still(plain.still);
@@ -214,38 +213,14 @@ static void try_large(const Made *made, Random *random, unsigned count)
     plain_done(&plain);
 }
 
-static void large_stills(Options options)
+static void try_large(Made *made, Random *random)
 {
-    static const size_t blocks[] = {1, 16, 256, MOST_BLOCKS};
-    tally_begin("price: large stills, by the dynamic programme");
-    for (size_t size = 0; size < large_sizes(options); size++)
-        for (Large kind = 0; kind < LARGE_KINDS; kind++) {
-            Random random = random_of(options.seed, 1000 * kind + blocks[size]);
-            Made made = made_large(kind, blocks[size], &random);
-            tally_case("%zu blocks, %s", blocks[size], large_names[kind]);
-            try_large(&made, &random, blocks[size] <= 16 ? 30 : blocks[size] <= 256 ? 3 : 1);
-            made_done(&made);
-        }
-    tally_end();
+    try_prices(made, random, made->blocks <= 16 ? 30 : made->blocks <= 256 ? 3 : 1);
 }
 
-static void real_stills(Options options)
+static void try_real(Made *made, Random *random)
 {
-    static const char *const names[] = {"camera_q50.pkt", "astronaut_q50.pkt", "camera_q90.pkt", "camera_q75.raw",
-                                        "astronaut_q90.raw"};
-    tally_begin("price: real stills");
-    for (size_t i = 0; i < 5; i++) {
-        Random random = random_of(options.seed, i);
-        Made made;
-        bool read = i < 3 ? made_from_packet(options.samples, names[i], &made)
-                          : made_from_raw(options.samples, names[i], &made);
-        tally_case("%s", names[i]);
-        if (!tally(read, "can't be read"))
-            continue;
-        try_large(&made, &random, 10);
-        made_done(&made);
-    }
-    tally_end();
+    try_prices(made, random, 10);
 }
 
 /* ---- Thinning. ---- */
@@ -359,23 +334,13 @@ static void thin_refusals(Options options)
 }
 
 /* Each place of each slice can be the bad one, and is told. */
-static void every_place(Options options)
+static void try_bad(Made *made, Random *random)
 {
-    static const char *const names[BAD_KINDS] = {"length", "step", "level"};
-    tally_begin("price: a fault at every place");
-    for (Bad kind = 0; kind < BAD_KINDS; kind++)
-        for (unsigned place = 0; place < BAD_PLACES; place++) {
-            Random random = random_of(options.seed, place);
-            Made made = made_bad(kind, place, &random);
-            Plain plain = plain_of(made_still(&made), BY_PROGRAMME);
-            LentStill lent = lend_still(plain.still);
-            tally_case("%s %u", names[kind], place);
-            try_price(&plain, &lent, 1, 0, made.blocks, &random);
-            lent_still_done(&lent);
-            plain_done(&plain);
-            made_done(&made);
-        }
-    tally_end();
+    Plain plain = plain_of(made_still(made), BY_PROGRAMME);
+    LentStill lent = lend_still(plain.still);
+    try_price(&plain, &lent, 1, 0, made->blocks, random);
+    lent_still_done(&lent);
+    plain_done(&plain);
 }
 
 /* The bad level, and the bit of a keep number that is bad, at every place. */
@@ -482,10 +447,11 @@ int main(int count, char **arguments)
 {
     Options options = options_of(count, arguments, 3000);
     small_stills(options);
-    large_stills(options);
-    real_stills(options);
+    on_large("price: large stills, by the dynamic programme", (const size_t[]){1, 16, 256, MOST_BLOCKS}, options,
+             try_large);
+    on_real("price: real stills", options, try_real);
     price_refusals(options);
-    every_place(options);
+    on_bad("price: a fault at every place", options, try_bad);
     at_the_wall(options);
     thinning(options);
     price_then_thin(options);

@@ -11,25 +11,13 @@ tools=$1
 program=$2
 cd "$(dirname "$0")/.."
 . tests/machine.sh
+. tests/settle.sh
 count=${COUNT:-500}
 seed=${SEED:-1}
 samples=${SAMPLES:-samples}
 room=$(mktemp -d)
 trap 'rm -rf "$room"' EXIT
-passed=0
-failed=0
 : >"$room/refusals"
-
-# settle NAME COMPARED WRONG: one group of packets
-settle() {
-    if [ "$2" -gt 0 ] && [ "$3" -eq 0 ]; then
-        echo "pass  $1: $2 compared"
-        passed=$((passed + 1))
-    else
-        echo "FAIL  $1: $2 compared, $3 failed"
-        failed=$((failed + 1))
-    fi
-}
 
 # list: the program under test; its exit status is not part of what is promised
 list() {
