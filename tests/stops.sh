@@ -11,7 +11,7 @@ tools=$1
 program=$2
 cd "$(dirname "$0")/.."
 . tests/machine.sh
-. tests/settle.sh
+. tests/tally.sh
 count=${COUNT:-500}
 seed=${SEED:-1}
 samples=${SAMPLES:-samples}
@@ -130,5 +130,4 @@ done
 echo "      refused by $told"
 end
 
-echo "$passed passed, $failed failed"
-[ "$failed" -eq 0 ]
+finish
