@@ -12,7 +12,7 @@ use borrow.Rule.Slice.PartMut.{midOf, postOf, putMid, take-put, drop-put}
 abbrev at : ℕ → List ℤ → ℤ
 at i xs = getD xs i (pos 0)
 
--- from a to e, both of them places of the levels xs
+-- the part from a up to e, within the levels xs
 module _ (a e : ℕ) (xs : List ℤ) (order : a ≤ e) (inside : e ≤ length xs) where
   pub lent-at : (k : ℕ) → k < e - a → at k (midOf a (e - a) xs) ≡ at (a + k) xs
   lent-at k h = getD-take (e - a) (drop a xs) k (pos 0) h ∙ getD-drop a xs k (pos 0)

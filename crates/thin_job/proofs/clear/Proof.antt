@@ -1,4 +1,4 @@
--- `thin_job::clear` meets its contract: the levels from the place on to where it is are 0, and the others are as they were.
+-- `thin_job::clear` meets its contract: the levels from its place up to the one at hand are 0, and the others are as they were.
 -- Assumes nothing.
 use Prim.Native.Nat.{_-_, _≤_}
 use native.Mathlib.Omega.{arith}
