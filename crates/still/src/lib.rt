@@ -7,6 +7,7 @@ ghost use mathlib.Core.Path.{_≡_};
 ghost use mathlib.Core.Bool.{false, _&&_};
 ghost use Prim.Native.Nat.{_+_, _*_, _/_, _≤_, _<_};
 ghost use lib.Dec.{eqb, ltb};
+ghost use lib.IntN.{natAbs};
 ghost use lib.ListN.{length};
 ghost use Rattle.block.specs.First.{firstBelow};
 ghost use Rattle.answers.specs.Said.{numberOf, saidCheck, when};
@@ -15,7 +16,7 @@ ghost use Rattle.still.specs.Refusals.{levelsCheck, outsideAt, tableChec
 
 const MOST_BLOCKS: usize = 1024;
 
-const MOST_LEVEL: u64 = 1023;
+const MOST_LEVEL: i16 = 1023;
 
 // Refusal 1, by the number of levels.
 fn check_levels(count: usize) -> Checked
@@ -115,6 +116,13 @@ fn ac_level(levels: &[i16], i: usize) -> u64
     block::magnitude(levels[i])
 }
 
+// Whether a level is outside its range. It is compared at its own width, so that more of them are taken at once.
+fn is_bad(v: i16) -> bool
+    ensures { λ r. ⌜ r ≡ ltb 1023 (natAbs v) ⌝ }
+{
+    (v < -MOST_LEVEL) | (MOST_LEVEL < v)
+}
+
 // Whether block b has a bad level. All 63 are looked at, with no way out between, so that the compiler can take
 // several at once.
 fn any_bad_level(levels: &[i16], b: usize) -> bool
@@ -124,7 +132,7 @@ fn any_bad_level(levels: &[i16], b: usize) -> bool
     let mut bad = false;
     let mut k = 1;
     while k < 64 {
-        bad = bad | (MOST_LEVEL < block::magnitude(levels[64 * b + k]));
+        bad = bad | is_bad(levels[64 * b + k]);
         k += 1;
     }
     bad
@@ -151,7 +159,7 @@ fn first_bad_level(levels: &[i16]) -> usize
 {
     let mut i = 64 * good_blocks(levels);
     while i < levels.len() {
-        if MOST_LEVEL < ac_level(levels, i) {
+        if (MOST_LEVEL as u64) < ac_level(levels, i) {
             return i;
         }
         i += 1;

@@ -23,20 +23,20 @@ abbrev μ-loop : tie.MeasureT-loop
 loop-holds : tie.Need-loop-holds Inv-loop μ-loop
 loop-holds c = (search needs, search needs, λ _. passed-one (dc-good _ _))
 
-mul-magnitude : tie.Need-mul-magnitude Inv-loop μ-loop
-mul-magnitude c = search needs
+mul-is-bad : tie.Need-mul-is-bad Inv-loop μ-loop
+mul-is-bad c = search needs
 
-add-magnitude : tie.Need-add-magnitude Inv-loop μ-loop
-add-magnitude c = search needs
+add-is-bad : tie.Need-add-is-bad Inv-loop μ-loop
+add-is-bad c = search needs
 
-mul-magnitude-2 : tie.Need-mul-magnitude-2 Inv-loop μ-loop
-mul-magnitude-2 c = search needs
+mul-is-bad-2 : tie.Need-mul-is-bad-2 Inv-loop μ-loop
+mul-is-bad-2 c = search needs
 
-shared-slice-copy-out-magnitude : tie.Need-shared-slice-copy-out-magnitude Inv-loop μ-loop
-shared-slice-copy-out-magnitude c = search needs
+shared-slice-copy-out-is-bad : tie.Need-shared-slice-copy-out-is-bad Inv-loop μ-loop
+shared-slice-copy-out-is-bad c = search needs
 
-magnitude-requires : tie.Need-magnitude-requires Inv-loop μ-loop
-magnitude-requires c κs = search needs
+is-bad-requires : tie.Need-is-bad-requires Inv-loop μ-loop
+is-bad-requires c κs = search needs
 
 add-k : tie.Need-add-k Inv-loop μ-loop
 add-k c = search needs
@@ -45,13 +45,13 @@ loop-less : tie.Need-loop-less Inv-loop μ-loop
 loop-less c = search needs
 
 -- the test of the level at hand
-tested : (c : tie.After-magnitude Inv-loop μ-loop)
+tested : (c : tie.After-is-bad Inv-loop μ-loop)
     → badLevel (c .before .before .before .before .args .levels .now) (64 * c .before .before .before .before .args .b + c .before .before .before .loop .k)
-    ≡ ltb 1023 (c .magnitude .result)
+    ≡ c .is-bad .result
 unfolding badLevel
 tested c =
-    ap (ltb 1023)
-    (ac-here _ _ (λ e. omega arith) ∙ sym (rw (back (record { sfits = c .before .magnitude-arg .given })) at (c .magnitude .ensures)))
+    ap (ltb 1023) (ac-here _ _ (λ e. omega arith))
+    ∙ sym (rw (back (record { sfits = c .before .is-bad-arg .given })) at (c .is-bad .ensures))
 
 loop-again : tie.Need-loop-again Inv-loop μ-loop
 loop-again c = (search needs, search needs, flag-more _ _ _ (c .before .before .before .loop .inv .2) (tested c) (omega arith))
@@ -69,11 +69,11 @@ any-bad-level-spec =
     Inv-loop
     μ-loop
     loop-holds
-    mul-magnitude
-    add-magnitude
-    mul-magnitude-2
-    shared-slice-copy-out-magnitude
-    magnitude-requires
+    mul-is-bad
+    add-is-bad
+    mul-is-bad-2
+    shared-slice-copy-out-is-bad
+    is-bad-requires
     add-k
     loop-less
     loop-again

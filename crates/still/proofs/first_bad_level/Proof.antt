@@ -28,6 +28,9 @@ mul-i c = search needs
 loop-holds : tie.Need-loop-holds Inv-loop μ-loop
 loop-holds c = c .good-blocks .ensures
 
+cast-if1 : tie.Need-cast-if1 Inv-loop μ-loop
+cast-if1 c = search needs
+
 ac-level-requires : tie.Need-ac-level-requires Inv-loop μ-loop
 ac-level-requires c κs = search needs
 
@@ -63,6 +66,7 @@ first-bad-level-spec =
     good-blocks-requires
     mul-i
     loop-holds
+    cast-if1
     ac-level-requires
     returns
     add-i
