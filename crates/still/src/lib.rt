@@ -11,7 +11,7 @@ ghost use lib.IntN.{natAbs};
 ghost use lib.ListN.{length};
 ghost use Rattle.block.specs.First.{firstBelow};
 ghost use Rattle.answers.specs.Said.{numberOf, saidCheck, when};
-ghost use Rattle.still.specs.Passed.{Passed, FirstOf};
+ghost use Rattle.still.specs.Passed.{Passed, FirstOf, zeroKept};
 ghost use Rattle.still.specs.Refusals.{levelsCheck, outsideAt, tableCheck, stillCheck, priceCheck, keepRoomCheck, listRoomCheck, acAt, badLevel, atPlace, acCheck, badKeep, keepCheck, priceVerdict, listVerdict, budgetVerdict, thinVerdict};
 
 const MOST_BLOCKS: usize = 1024;
@@ -213,12 +213,65 @@ fn first_bad_bit(levels: &[i16], keep: &[u64], b: usize) -> usize
     64
 }
 
+// Whether the bit of a level that is 0 is set.
+fn zero_kept(v: i16, bit: u16) -> bool
+    ensures { λ r. ⌜ r ≡ eqb bit 1 && eqb (natAbs v) 0 ⌝ }
+{
+    (bit == 1) & (v == 0)
+}
+
+// Whether one of eight bits is that of a level that is 0. Bits are as wide as levels, so that the compiler takes all eight
+// at once.
+fn any_zero_kept(levels: &[i16], from: usize, bits: u16) -> bool
+    requires { ⌜ from + 8 ≤ length (now levels) ⌝ }
+    ensures { λ r. ⌜ (r ≡ false → Passed (zeroKept (now (levels .entry)) from bits) 0 8) ⌝ }
+{
+    let mut bad = false;
+    let mut k = 0;
+    while k < 8 {
+        bad = bad | zero_kept(levels[from + k], (bits >> k) % 2);
+        k += 1;
+    }
+    bad
+}
+
+// Whether the keep number of block b sets a bit that it may not. All 64 are looked at, with no way out between.
+fn any_bad_bit(levels: &[i16], keep: &[u64], b: usize) -> bool
+    requires { ⌜ (64 * b + 64 ≤ length (now levels)) × (b < length (now keep)) ⌝ }
+    ensures { λ r. ⌜ (r ≡ false → Passed (badKeep (now (levels .entry)) (now (keep .entry))) (64 * b) (64 * b + 64)) ⌝ }
+{
+    let mut rest = keep[b];
+    let mut bad = rest % 2 == 1;
+    let mut g = 0;
+    while g < 8 {
+        bad = bad | any_zero_kept(levels, 64 * b + 8 * g, (rest % 256) as u16);
+        rest = rest / 256;
+        g += 1;
+    }
+    bad
+}
+
+// How many blocks at the front have no bad bit.
+fn good_keeps(levels: &[i16], keep: &[u64]) -> usize
+    requires { ⌜ 64 * length (now keep) ≡ length (now levels) ⌝ }
+    ensures { λ r. ⌜ (r ≤ length (now (keep .entry))) × Passed (badKeep (now (levels .entry)) (now (keep .entry))) 0 (64 * r) ⌝ }
+{
+    let mut b = 0;
+    while b < keep.len() {
+        if any_bad_bit(levels, keep, b) {
+            return b;
+        }
+        b += 1;
+    }
+    b
+}
+
 // The first index at which a keep number sets a bit that it may not, or the number of levels.
 fn first_bad_keep(levels: &[i16], keep: &[u64]) -> usize
     requires { ⌜ 64 * length (now keep) ≡ length (now levels) ⌝ }
     ensures { λ r. ⌜ r ≡ firstBelow (badKeep (now (levels .entry)) (now (keep .entry))) (length (now (levels .entry))) ⌝ }
 {
-    let mut b = 0;
+    let mut b = good_keeps(levels, keep);
     while b < keep.len() {
         let k = first_bad_bit(levels, keep, b);
         if k < 64 {

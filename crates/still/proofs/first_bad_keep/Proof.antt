@@ -7,7 +7,7 @@ use native.Mathlib.Omega.{arith}
 use lib.ListN.{length}
 use Rattle.still.specs.Passed.{Passed}
 use Rattle.still.specs.Refusals.{badKeep}
-use Rattle.still.proofs.Passed.{passed-none, passed-both, passed-block, first-past, first-next}
+use Rattle.still.proofs.Passed.{passed-both, passed-block, first-past, first-next}
 use Rattle.still.proofs.first_bad_keep.Statement.{statement}
 use Rattle.still.proofs.first_bad_keep.Tie as tie
 
@@ -17,8 +17,11 @@ Inv-loop levels keep b₀ b = (b ≤ length keep) × Passed (badKeep levels keep
 abbrev μ-loop : tie.MeasureT-loop
 μ-loop levels keep b₀ b = length keep - b
 
+good-keeps-requires : tie.Need-good-keeps-requires Inv-loop μ-loop
+good-keeps-requires c κs = search needs
+
 loop-holds : tie.Need-loop-holds Inv-loop μ-loop
-loop-holds c = (search needs, passed-none _)
+loop-holds c = c .good-keeps .ensures
 
 first-bad-bit-requires : tie.Need-first-bad-bit-requires Inv-loop μ-loop
 first-bad-bit-requires c κs = (omega arith, search needs)
@@ -55,6 +58,7 @@ first-bad-keep-spec =
     (tie.spec
     Inv-loop
     μ-loop
+    good-keeps-requires
     loop-holds
     first-bad-bit-requires
     mul-result
