@@ -8,19 +8,13 @@ use native.Mathlib.Decide.{decLe}
 use native.Mathlib.Omega.{arith}
 use native.Mathlib.Nat.{div-eq-of-lt, zero-div}
 use lib.ListN.{getD}
-use lib.Pow.{shr-shr, field, mod-mod-pow}
+use lib.Pow.{shr-shr}
 use borrow.Author.Tests.{eq-eqb, ne-eqb}
 use Rattle.still.specs.Refusals.{bitAt}
 use Rattle.still.proofs.Place.{block-of, position-of}
+use Rattle.still.proofs.Eights.{low-bit}
 use Rattle.thin_job.specs.ThinJob.{staysAt, stays}
 use Rattle.thin_job.specs.Parts.{isSet}
-
--- the low eight bits of a number are its own
-low-bit : (n k : ℕ) → k < 8 → bitAt (n % 256) k ≡ bitAt n k
-low-bit n k h =
-    let s : 7 - k + 1 + k ≡ 8 = omega arith in
-    let f : bitAt (n % 2 ^ (7 - k + 1 + k)) k ≡ n / 2 ^ k % 2 ^ (7 - k + 1) % 2 = ap (λ (m : ℕ). m % 2) (field n (7 - k + 1) k) in
-    (rw s at f) ∙ mod-mod-pow (n / 2 ^ k) (7 - k) 1
 
 -- a keep number with DC's bit set: its bits are those of what stays
 abbrev staying : ℕ → ℕ
