@@ -1,109 +1,55 @@
-// A case's line: the case again, the answer, and what was lent, afterwards.
+// A case's call: the job is lent what the call says, and its answer is told.
 use crate::call::Call;
-use answers::KeptAnswer;
-use answers::PointAnswer;
-use answers::Refusal;
-use libc::STDOUT_FILENO;
+use crate::tell;
 
-fn text(s: &[u8]) {
-    io::write_all(STDOUT_FILENO, s);
-}
+// Room for the longest list of the cases, and for more keep numbers than a still may have.
+const PLACES: usize = 12300;
 
-pub fn echo(c: u8) {
-    text(&[c]);
-}
-
-fn number(x: u64) {
-    text(b" ");
-    io::print_decimal(STDOUT_FILENO, x);
-}
-
-fn tell_refusal(r: Refusal) {
-    let kind = r.kind;
-    text(b": refused");
-    number(answers::number(kind));
-    number(r.first);
-    number(r.second);
-}
-
-fn tell_point(r: PointAnswer) {
-    match r {
-        PointAnswer::Point(p) => {
-            text(b": point");
-            number(p.bits.0);
-            number(p.error.0);
-            number(p.kept);
-        }
-        PointAnswer::Refused(refusal) => tell_refusal(refusal),
+// The job that stores in `out`, which is the list or the keep slice.
+fn run(
+    levels: &[i16],
+    steps: &[u8],
+    lengths: &[u8],
+    job: u8,
+    a: u64,
+    b: u64,
+    budget: u32,
+    out: &mut [u64],
+) {
+    if job == b'l' {
+        let r = list_job::list(levels, steps, lengths, out);
+        tell::corners(r, out);
+        return;
     }
-}
-
-fn tell_kept(r: KeptAnswer) {
-    match r {
-        KeptAnswer::Kept(n) => {
-            text(b": kept");
-            number(n);
-        }
-        KeptAnswer::Refused(refusal) => tell_refusal(refusal),
+    if job == b'b' {
+        let r = budget_job::fit(levels, steps, lengths, budget, out);
+        tell::point(r, out);
+        return;
     }
-}
-
-fn tell_keep(keep: &[u64]) {
-    text(b", keep");
-    for i in 0..keep.len() {
-        number(keep[i]);
-    }
-}
-
-// Block, position and value.
-fn tell_level(i: usize, v: i16) {
-    number((i / 64) as u64);
-    text(b"/");
-    io::print_decimal(STDOUT_FILENO, (i % 64) as u64);
-    text(b"=");
-    if v < 0 {
-        text(b"-");
-    }
-    io::print_decimal(STDOUT_FILENO, block::magnitude(v));
-}
-
-fn tell_levels(levels: &[i16]) {
-    text(b", levels");
-    for i in 0..levels.len() {
-        let v = levels[i];
-        if v != 0 {
-            tell_level(i, v);
-        }
-    }
-}
-
-fn run_price(levels: &[i16], steps: &[u8], lengths: &[u8], a: u64, b: u64, keep: &mut [u64]) {
-    let r = price_job::price(levels, steps, lengths, a, b, keep);
-    tell_point(r);
-    tell_keep(keep);
+    let r = price_job::price(levels, steps, lengths, a, b, out);
+    tell::point(r, out);
 }
 
 fn run_thinning(levels: &mut [i16], keep: &[u64]) {
     let r = thin_job::thin(levels, keep);
-    tell_kept(r);
-    tell_keep(keep);
-    tell_levels(levels);
+    tell::kept(r, keep, levels);
 }
 
 // A call for more than there is gets no answer.
-fn lend_price(levels: &[i16], steps: &[u8], lengths: &[u8], keep: &mut [u64], call: Call) {
+fn lend(levels: &[i16], steps: &[u8], lengths: &[u8], out: &mut [u64], n: usize, call: Call) {
     let l = call.levels_len;
     let s = call.steps_len;
     let t = call.lengths_len;
-    let n = call.keep_len;
-    if l <= levels.len() && s <= steps.len() && t <= lengths.len() && n <= keep.len() {
-        run_price(
+    if l <= levels.len() && s <= steps.len() && t <= lengths.len() && n <= out.len() {
+        run(
             &levels[..l],
             &steps[..s],
             &lengths[..t],
+            call.job,
             call.a,
             call.b,
-            &mut keep[..n],
+            call.budget,
+            &mut out[..n],
         );
     }
 }
@@ -116,12 +62,17 @@ fn lend_thinning(levels: &mut [i16], keep: &[u64], call: Call) {
     }
 }
 
-fn price(call: Call) {
+// The list or the keep slice, of n places.
+fn store(call: Call, n: usize) {
     let levels = call.levels;
     let steps = call.steps;
     let lengths = call.lengths;
-    let mut keep = call.keep;
-    lend_price(&levels, &steps, &lengths, &mut keep, call);
+    let keep = call.keep;
+    let mut out = [9; PLACES];
+    out[0] = keep[0];
+    out[1] = keep[1];
+    out[2] = keep[2];
+    lend(&levels, &steps, &lengths, &mut out, n, call);
 }
 
 fn thin(call: Call) {
@@ -131,9 +82,11 @@ fn thin(call: Call) {
 }
 
 pub fn answer(call: Call) {
-    if call.thins {
-        thin(call);
-    } else {
-        price(call);
+    let job = call.job;
+    match job {
+        b'p' | b'b' => store(call, call.keep_len),
+        b'l' => store(call, call.list_len),
+        b't' => thin(call),
+        _ => {}
     }
 }

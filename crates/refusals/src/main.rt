@@ -1,9 +1,16 @@
-// Runs the price and the thinning job on bad and on barely good input. A line of the input is a case, told again with its
-// answer: the job, and what is changed of a sound call. `levels`, `steps`, `entries`, `keeps` say how long a slice is,
-// `level[i]`, `step[i]`, `entry[i]`, `keep[i]` what stands in it, `a` and `b` the price.
+// Runs the four jobs on bad input, on barely good input and on stills that are hard. A line of the input is a case, told
+// again with its answer and with what was lent, afterwards; a line that begins with # is a heading. The first word of a
+// case names the job: `price`, `list`, `thin`, or `budget=N` for a budget of N bits. The others change a sound call, each
+// told by its first letter:
+// `levels`, `steps`, `entries`, `places`, `keeps`: how long a slice is; `n`: 64 * n levels and n keeps,
+// `level[i]`, `step[i]`, `entry[i]`, `keep[i]`: what stands at a place; `position[k]`: at position k of every block,
+// `fill=V`: the levels are V and -V in turn; `mixed=V`: they have many values from -V to V,
+// `quantizer=V`: the steps are V; `rise=V`: they are V, V + 1, V + 2 and so on; `table=V`: the lengths are V,
+// `a`, `b`: the price.
 // What must be printed is the output of tests/refusals.c, which makes the same calls of the independent implementation.
 mod call;
 mod line;
+mod tell;
 mod word;
 
 use libc::STDIN_FILENO;
@@ -21,7 +28,7 @@ fn run(cases: &[u8]) {
             call = call::sound();
         }
         word = word.read(c);
-        line::echo(c);
+        tell::echo(c);
     }
 }
 

@@ -1,4 +1,4 @@
-// A word of a case, read byte by byte: `price`, `levels=63`, `level[67]=-1024`.
+// A word of a case, read byte by byte: `list`, `levels=63`, `level[67]=-1024`.
 pub struct Word {
     // The first letter; 0 before it is read.
     pub letter: u8,
@@ -18,13 +18,12 @@ pub fn new() -> Word {
     }
 }
 
-// The negative levels of the cases.
-fn negative(n: u64) -> i16 {
-    match n {
-        1023 => -1023,
-        1024 => -1024,
-        _ => -32768,
+// A number below 32,768, or its negative, which may be one more.
+pub fn signed(n: u64, negative: bool) -> i16 {
+    if negative && n > 0 {
+        return -1 - ((n - 1) % 32768) as i16;
     }
+    (n % 32768) as i16
 }
 
 impl Word {
@@ -57,10 +56,7 @@ impl Word {
     }
 
     pub fn level(self) -> i16 {
-        if self.negative {
-            return negative(self.value);
-        }
-        (self.value % 32768) as i16
+        signed(self.value, self.negative)
     }
 
     pub fn byte(self) -> u8 {

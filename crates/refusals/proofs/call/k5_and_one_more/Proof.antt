@@ -4,7 +4,6 @@ use Prim.Native.Nat.{_≤_, _-_}
 use borrow.Author.Needs.{needs}
 use Rattle.refusals.proofs.call.k5_and_one_more.Statement.{statement}
 use Rattle.refusals.proofs.call.k5_and_one_more.Tie as tie
-use Rattle.block.proofs.tables.k5.Reads as k5-reads
 
 abbrev Inv-loop : tie.InvT-loop
 Inv-loop table lengths₀ i₀ lengths i = i ≤ 256

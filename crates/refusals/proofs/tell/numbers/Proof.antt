@@ -1,23 +1,15 @@
--- `refusals::line::tell_keep` is safe and ends: the index stays within the slice.
+-- `refusals::tell::numbers` is safe and ends: only places of the slice are read.
 -- Assumes nothing.
-use mathlib.Core.Path.{_≡_}
 use Prim.Native.Nat.{_≤_, _-_}
-use lib.ListN.{length}
 use borrow.Author.Needs.{needs}
-use Rattle.refusals.proofs.line.tell_keep.Statement.{statement}
-use Rattle.refusals.proofs.line.tell_keep.Tie as tie
+use Rattle.refusals.proofs.tell.numbers.Statement.{statement}
+use Rattle.refusals.proofs.tell.numbers.Tie as tie
 
 abbrev Inv-loop : tie.InvT-loop
-Inv-loop keep i₀ i-end i = (i-end ≡ length keep) × (i ≤ i-end)
+Inv-loop xs most i₀ i = i ≤ most
 
 abbrev μ-loop : tie.MeasureT-loop
-μ-loop keep i₀ i-end i = i-end - i
-
-slice-aggregate-text : tie.Need-slice-aggregate-text Inv-loop μ-loop
-slice-aggregate-text c = search needs
-
-text-requires : tie.Need-text-requires Inv-loop μ-loop
-text-requires c κs = search needs
+μ-loop xs most i₀ i = most - i
 
 loop-holds : tie.Need-loop-holds Inv-loop μ-loop
 loop-holds c = search needs
@@ -43,14 +35,12 @@ loop-again c = search needs
 returns : tie.Need-returns Inv-loop μ-loop
 returns c = search needs
 
-pub tell-keep-spec : {M : Type 1} → statement M
-tell-keep-spec =
+pub numbers-spec : {M : Type 1} → statement M
+numbers-spec =
     tie.close
     (tie.spec
     Inv-loop
     μ-loop
-    slice-aggregate-text
-    text-requires
     loop-holds
     mul-number
     shared-slice-read-number

@@ -1,11 +1,11 @@
--- `refusals::line::tell_levels` is safe and ends: the index stays within the slice.
+-- `refusals::tell::nonzero` is safe and ends: the index stays within the slice.
 -- Assumes nothing.
 use mathlib.Core.Path.{_≡_}
 use Prim.Native.Nat.{_≤_, _-_}
 use lib.ListN.{length}
 use borrow.Author.Needs.{needs}
-use Rattle.refusals.proofs.line.tell_levels.Statement.{statement}
-use Rattle.refusals.proofs.line.tell_levels.Tie as tie
+use Rattle.refusals.proofs.tell.nonzero.Statement.{statement}
+use Rattle.refusals.proofs.tell.nonzero.Tie as tie
 
 abbrev Inv-loop : tie.InvT-loop
 Inv-loop levels i₀ i-end i = (i-end ≡ length levels) × (i ≤ i-end)
@@ -28,8 +28,8 @@ mul-v c = search needs
 shared-slice-copy-out-v : tie.Need-shared-slice-copy-out-v Inv-loop μ-loop
 shared-slice-copy-out-v c = search needs
 
-tell-level-requires : tie.Need-tell-level-requires Inv-loop μ-loop
-tell-level-requires c κs = search needs
+level-requires : tie.Need-level-requires Inv-loop μ-loop
+level-requires c κs = search needs
 
 add-i : tie.Need-add-i Inv-loop μ-loop
 add-i c = search needs
@@ -43,8 +43,8 @@ loop-again c = search needs
 returns : tie.Need-returns Inv-loop μ-loop
 returns c = search needs
 
-pub tell-levels-spec : {M : Type 1} → statement M
-tell-levels-spec =
+pub nonzero-spec : {M : Type 1} → statement M
+nonzero-spec =
     tie.close
     (tie.spec
     Inv-loop
@@ -54,7 +54,7 @@ tell-levels-spec =
     loop-holds
     mul-v
     shared-slice-copy-out-v
-    tell-level-requires
+    level-requires
     add-i
     loop-less
     loop-again
