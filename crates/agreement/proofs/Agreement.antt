@@ -1,9 +1,11 @@
--- Every accepted price gives an entry of the list: the point of the price job stands there, its kept number included.
+-- Every accepted price gives an entry of the list: the point of the price job stands there, its kept number included; and every
+-- entry is given by an accepted price.
 -- Assumes nothing.
 use mathlib.Core.Path.{_≡_, refl, sym, subst}
-use mathlib.Core.List.{List, [], _∷_, List·Memᴰ, List·Memᴰ·append-cases, List·Memᴰ·eq-of-singleton, List·Memᴰ·not-nil}
+use mathlib.Core.List.{List, [], _∷_, List·Memᴰ, List·Memᴰ·head, List·Memᴰ·append-cases, List·Memᴰ·eq-of-singleton, List·Memᴰ·not-nil, Memᴰ·append-left, Memᴰ·append-right}
 use mathlib.Core.Logic.{_⊎_, inl, inr}
 use Prim.Native.Nat.{ℕ, zero, suc, _+_, _*_, _<_}
+use native.Mathlib.Decide.{decLt}
 use native.Mathlib.Omega.{arith}
 use lib.ListN.{length, getD}
 use Rattle.block.specs.Block.{Block}
@@ -11,8 +13,9 @@ use Rattle.price.specs.Price.{Accepted}
 use Rattle.corners.specs.Pair.{Pair}
 use Rattle.corners.specs.Price.{Wins}
 use Rattle.corners.specs.Still.{Attains}
-use Rattle.corners.specs.Listed.{CornerList, entry, entries}
+use Rattle.corners.specs.Listed.{Given, CornerList, entry, entries}
 use Rattle.corners.proofs.Winner.{wins-corner}
+use Rattle.corners.proofs.Unique.{wins-unique}
 use Rattle.corners.proofs.Sums.{total-wins}
 use Rattle.corners.proofs.Agreement.{price-listed}
 use Rattle.attained.specs.Attained.{Attained}
@@ -22,7 +25,7 @@ use Rattle.merge.specs.CornerChoice.{CornerKept}
 use Rattle.settled.proofs.OneChoice.{kept-unique}
 use Rattle.price_job.specs.PriceJob.{Decided}
 use Rattle.list_job.specs.ListJob.{Stored}
-use Rattle.agreement.specs.Listed.{InList}
+use Rattle.agreement.specs.Listed.{InList, PriceOf}
 
 -- where a pair of the list stands
 pub record Place (out : List ℕ) (m : ℕ) (P : Pair) : Type 0 where
@@ -59,4 +62,30 @@ module _ {B : ℕ → Block} {n a b : ℕ} {P : Pair} {keep : List ℕ} (d : Dec
         inside = q .inside;
         pair = q .is;
         keeps = kept-unique (wins-corner (h .a-low) wins) (subst (λ (X : Pair). CornerKept B n X (getD after (3 * q .at + 2) 0)) (q .is) (s .kept (q .at) (q .inside))) keeps;
+      }
+
+-- an entry is one of the pairs
+entry-member : (out : List ℕ) (m k : ℕ) → k < m → List·Memᴰ (entry out k) (entries out m)
+entry-member out zero k h = absurd (omega arith)
+entry-member out (suc m) k h =
+    elim (decLt k m) [
+      | yes l ↦ Memᴰ·append-left (entry out m ∷ []) (entry-member out m k l)
+      | no l ↦
+          let e : m ≡ k = omega arith in
+          Memᴰ·append-right (entries out m) (subst (λ (j : ℕ). List·Memᴰ (entry out j) (entry out m ∷ [])) e (List·Memᴰ·head refl))
+    ]
+
+module _ {B : ℕ → Block} {n : ℕ} {L : List Pair} {before after : List ℕ} (C : CornerList (Attains (λ i. Attained (B i)) n) L) (s : Stored B n L before after) where
+  pub given-back : (k : ℕ) → k < length L → PriceOf B n after k
+  given-back k h =
+      let g : Given (Attains (λ i. Attained (B i)) n) (entry after k) = C .given (entry after k) (subst (λ (l : List Pair). List·Memᴰ (entry after k) l) (s .pairs) (entry-member after (length L) k h)) in
+      let same : (P : Pair) (keep : List ℕ) → Decided B n (g .a) (g .b) P keep → P ≡ entry after k = λ P keep d. wins-unique (g .accepted .a-low) (wins d) (g .wins) in
+      record {
+        a = g .a;
+        b = g .b;
+        accepted = g .accepted;
+        pair = same;
+        keeps = λ P keep d.
+            kept-unique (wins-corner (g .accepted .a-low) (g .wins))
+            (subst (λ (X : Pair). CornerKept B n X (keptTo (λ i. getD keep i 0) n)) (same P keep d) (keeps d)) (s .kept k h);
       }
