@@ -1,6 +1,6 @@
 #!/bin/sh
 # Builds the tests from outside.
-# Usage: tests/build.sh OUT                    what needs no library: self, packets, refusals, plain_stops and plain_head_end
+# Usage: tests/build.sh OUT                    what needs no library: self, packets, cases, plain_stops and plain_head_end
 #        tests/build.sh OUT PROGRAM ARCHIVE    price, lists, headend or the example head_end, linked with the library
 # CC compiles for this machine, LIBRARY_CC for the library's.
 set -eu
@@ -22,7 +22,7 @@ case ${2:-} in
 '')
     ${CC:-cc} $flags -o "$out/self" "$here/self.c" "$here/tally.c" $made
     ${CC:-cc} $flags -o "$out/packets" "$here/packets.c" "$here/faults.c" $made
-    ${CC:-cc} $flags -o "$out/refusals" "$here/refusals.c" $plain
+    ${CC:-cc} $flags -o "$out/cases" "$here/cases.c" $plain
     ${CC:-cc} $flags -o "$out/plain_stops" "$here/plain_stops.c" $plain
     ${CC:-cc} $flags -o "$out/plain_head_end" "$example" "$here/plain_budget.c" $plain
     ;;
