@@ -1,6 +1,6 @@
 #!/bin/sh
-# Holds the example head-end against the independent implementation: against the same example linked with it, and the number of
-# levels kept against its list of the stops.
+# Holds the example head-end against the independent implementation: against the same example linked with it, and what it
+# prints of the stop against its list of the stops.
 # Usage: tests/example.sh TOOLS PROGRAM
 #   TOOLS    the folder where tests/build.sh put plain_head_end and plain_stops
 #   PROGRAM  the example, linked with the library
@@ -31,9 +31,10 @@ wrong=0
 for packet in "$samples"/*_q50.pkt; do
     "$tools/plain_stops" <"$packet" | awk 'NR % 40 == 2' >"$room/stops"
     while read -r bits _ kept; do
-        compared=$((compared + 3))
+        compared=$((compared + 4))
         same "$packet" "$bits" || wrong=$((wrong + 1))
         grep -q "^$kept levels kept in " "$room/printed" || wrong=$((wrong + 1))
+        grep -qx "this stop: $bits bits, $kept levels kept" "$room/printed" || wrong=$((wrong + 1))
         same "$packet" $((bits - 1)) || wrong=$((wrong + 1))
     done <"$room/stops"
 done
