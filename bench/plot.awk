@@ -1,16 +1,6 @@
 # Plots from the benchmark's JSON, which has one row or one corner a line, as SVG on standard output.
-# Usage: awk -v plot=stops -f bench/plot.awk bench.json     error against bits, all stops of a sample
-#        awk -v plot=levels -f bench/plot.awk bench.json    time against nonzero levels, ours and fast
-
-# what a row says under a name, without its quotes
-function field(name,    text) {
-    if (!match($0, "\"" name "\": [^,}]*"))
-        return ""
-    text = substr($0, RSTART, RLENGTH)
-    sub(/^[^:]*: /, "", text)
-    gsub(/"/, "", text)
-    return text
-}
+# Usage: awk -v plot=stops -f bench/field.awk -f bench/plot.awk bench.json     error against bits, all stops of a sample
+#        awk -v plot=levels -f bench/field.awk -f bench/plot.awk bench.json    time against nonzero levels, ours and fast
 
 function log10(x) { return log(x) / log(10) }
 

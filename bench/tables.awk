@@ -1,15 +1,5 @@
 # The tables of docs/PERFORMANCE.md from the benchmark's JSON, which has one row a line, as Markdown on standard output.
-# Usage: awk -f bench/tables.awk bench.json
-
-# what a row says under a name, without its quotes
-function field(name,    text) {
-    if (!match($0, "\"" name "\": [^,}]*"))
-        return ""
-    text = substr($0, RSTART, RLENGTH)
-    sub(/^[^:]*: /, "", text)
-    gsub(/"/, "", text)
-    return text
-}
+# Usage: awk -f bench/field.awk -f bench/tables.awk bench.json
 
 # 1234567 as 1,234,567; nothing as a dash
 function whole(x,    digits, parts) {
