@@ -1,11 +1,14 @@
 // What the jobs answer: a point, a number of corners or of kept coefficients, or a refusal with its two details.
+
+#![tactic(auto)]
+
 ghost use Rattle.std.specs.Prelude.{◌≡◌};
 ghost use Rattle.answers.specs.Said.{number_of, refuse, said_check, ◌then◌};
 
 use price::{Bits, Error};
 
 // Why a call is refused, in the order of the refusals' numbers, 1 to 11.
-#[derive(Drop)]
+#[derive(Clone, Copy)]
 pub enum Kind {
     Levels,
     Steps,
@@ -20,14 +23,14 @@ pub enum Kind {
     Packet,
 }
 
-#[derive(Drop)]
+#[derive(Clone, Copy)]
 pub struct Refusal {
     pub kind: Kind,
     pub first: u64,
     pub second: u64,
 }
 
-#[derive(Drop)]
+#[derive(Clone, Copy)]
 pub struct Point {
     pub bits: Bits,
     pub error: Error,
@@ -35,28 +38,28 @@ pub struct Point {
 }
 
 // The answer of a price job and of a budget job.
-#[derive(Drop)]
+#[derive(Clone, Copy)]
 pub enum PointAnswer {
     Point(Point),
     Refused(Refusal),
 }
 
 // The answer of a list job: how many corners there are.
-#[derive(Drop)]
+#[derive(Clone, Copy)]
 pub enum CornersAnswer {
     Corners(u64),
     Refused(Refusal),
 }
 
 // The answer of a thinning: how many coefficients are kept.
-#[derive(Drop)]
+#[derive(Clone, Copy)]
 pub enum KeptAnswer {
     Kept(u64),
     Refused(Refusal),
 }
 
 // The answer of a check.
-#[derive(Drop)]
+#[derive(Clone, Copy)]
 pub enum Checked {
     Fine,
     Refused(Refusal),

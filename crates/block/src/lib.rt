@@ -1,4 +1,7 @@
 // What a level is to the coder: its magnitude, its size, the error of dropping it. T.81's fixed tables are in `tables`.
+
+#![tactic(auto)]
+
 pub mod tables;
 
 ghost use Rattle.std.specs.Prelude.{◌≡◌, ◌≤◌, ◌<◌, nat_abs};

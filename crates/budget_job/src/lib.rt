@@ -1,4 +1,7 @@
 // The budget job: the corner with most bits that fits, with its choice, or a refusal that stores nothing.
+
+#![tactic(auto)]
+
 ghost use Rattle.std.specs.Prelude.{◌≡◌, ◌/◌, ◌≤◌, ◌<◌, length};
 ghost use Rattle.attained.specs.Attained.{block_at};
 ghost use Rattle.answers.specs.Said.{number_of, said_point, refused as saidRefused};

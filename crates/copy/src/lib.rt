@@ -1,4 +1,7 @@
 // Numbers moved from one slice to another.
+
+#![tactic(auto)]
+
 ghost use Rattle.std.specs.Prelude.{◌≡◌, ℕ, ◌≤◌, ◌<◌, length, get_or};
 
 // Fills `to` with the first numbers of `from`.

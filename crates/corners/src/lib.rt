@@ -1,1 +1,3 @@
 // No code: what is said of corners is in specs/, and its proofs are in proofs/.
+
+#![tactic(auto)]

@@ -1,1 +1,3 @@
-// Document 01's starred examples: a table in specs/, one theorem in proofs/. There is no code here.
+// The starred examples of the rules: a table in specs/, one theorem in proofs/. There is no code here.
+
+#![tactic(auto)]

@@ -1,4 +1,7 @@
 // How far the still goes within a budget: from corner to corner, while the next one fits.
+
+#![tactic(auto)]
+
 ghost use Rattle.std.specs.Prelude.{◌≡◌, ◌+◌, ◌≤◌, get_or};
 ghost use Rattle.block.specs.Limits.{most_bits, most_error};
 ghost use Rattle.corners.specs.Merging.{growth};

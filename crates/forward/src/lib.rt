@@ -1,4 +1,7 @@
 // The best choice of a gathered block, forward: at each level that is not 0 the best choice that ends there.
+
+#![tactic(auto)]
+
 ghost use Rattle.std.specs.Prelude.{◌≡◌, ◌+◌, ◌*◌, ◌≤◌, ◌<◌, get_or};
 ghost use Rattle.price.specs.Price.{Accepted, most_on_bits};
 ghost use Rattle.forward.specs.Given.{NO, LEAST, is_full, Job, Decided, Room};
@@ -18,28 +21,28 @@ pub const LEAST: usize = 127;
 pub const SAVED: usize = 191;
 
 // How many levels of a block are not 0, and the error of dropping them all.
-#[derive(Drop)]
+#[derive(Clone, Copy)]
 pub struct Gathered {
     pub count: usize,
     pub error: Error,
 }
 
 // The best choice of a block.
-#[derive(Drop)]
+#[derive(Clone, Copy)]
 pub struct Chosen {
     pub bits: Bits,
     pub error: Error,
     pub keep: u64,
 }
 
-#[derive(Drop)]
+#[derive(Clone, Copy)]
 pub enum Decision {
     Best(Chosen),
     Nothing,
 }
 
 // The least cost so far, where it was met first, and whether it was met again.
-#[derive(Drop)]
+#[derive(Clone, Copy)]
 pub struct Quick {
     pub cost: u64,
     pub at: usize,
@@ -47,14 +50,14 @@ pub struct Quick {
 }
 
 // The first so far by cost, then bits, then index.
-#[derive(Drop)]
+#[derive(Clone, Copy)]
 pub struct Exact {
     pub cost: u64,
     pub bits: u64,
     pub at: usize,
 }
 
-#[derive(Drop)]
+#[derive(Clone, Copy)]
 pub struct Low {
     pub cost: u64,
     pub at: usize,

@@ -1,4 +1,7 @@
 // A budget bracketed between two prices with 1 on error: the blocks' winners at the higher fit it, those at the lower pass it.
+
+#![tactic(auto)]
+
 ghost use Rattle.std.specs.Prelude.{◌≡◌, ◌+◌, ◌*◌, ◌/◌, ◌≤◌, ◌<◌, length};
 ghost use Rattle.block.specs.Level.{block_of};
 ghost use Rattle.block.specs.Limits.{Levels, Steps, most_bits};
@@ -14,14 +17,14 @@ use forward::{Chosen, Decision};
 use price::{Bits, Error, Price};
 
 // An end of the range: a price on bits, and the bits and the error of all blocks' winners there.
-#[derive(Drop)]
+#[derive(Clone, Copy)]
 pub struct End {
     pub price: u64,
     pub bits: Bits,
     pub error: Error,
 }
 
-#[derive(Drop)]
+#[derive(Clone, Copy)]
 pub struct Range {
     pub low: End,
     pub high: End,

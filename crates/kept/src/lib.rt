@@ -1,4 +1,7 @@
 // How many coefficients keep numbers keep.
+
+#![tactic(auto)]
+
 ghost use Rattle.std.specs.Prelude.{◌≡◌, ◌≤◌, length};
 ghost use Rattle.kept.specs.Kept.{kept_of};
 

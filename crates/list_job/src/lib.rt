@@ -1,4 +1,7 @@
 // The list job: all the still's corners, or a refusal that stores nothing.
+
+#![tactic(auto)]
+
 ghost use Rattle.std.specs.Prelude.{◌≡◌, ◌/◌, length};
 ghost use Rattle.attained.specs.Attained.{block_at};
 ghost use Rattle.answers.specs.Said.{number_of, said_corners, refused as saidRefused};
@@ -15,7 +18,7 @@ use winners::Outcome;
 const REMEMBERED: usize = 4096;
 
 // The number of corners, or the first block without a codable choice.
-#[derive(Drop)]
+#[derive(Clone, Copy)]
 pub enum Found {
     Corners(usize),
     Uncodable(usize),

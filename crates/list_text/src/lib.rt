@@ -1,4 +1,7 @@
 // The text that the list program prints for a packet, put into lent bytes.
+
+#![tactic(auto)]
+
 ghost use Rattle.std.specs.Prelude.{◌≡◌, ◌+◌, ◌*◌, ◌≤◌, length};
 ghost use Rattle.answers.specs.Said.{fine, number_of};
 ghost use Rattle.packet.specs.Packet.{Room, packet_verdict};

@@ -1,4 +1,7 @@
 // The still goes from corner to corner: its blocks with the steepest way go on together.
+
+#![tactic(auto)]
+
 ghost use Rattle.std.specs.Prelude.{length, ◌+◌, ◌*◌, ◌^◌, ◌≤◌, ◌<◌};
 ghost use Rattle.attained.specs.Attained.{block_at};
 ghost use Rattle.forward.specs.Given.{Room};

@@ -1,4 +1,7 @@
 // A packed still into its levels, steps and lengths.
+
+#![tactic(auto)]
+
 ghost use Rattle.std.specs.Prelude.{◌≡◌, ◌+◌, ◌*◌, ◌/◌, ◌%◌, ◌≤◌, ◌<◌, pos, length, get_or};
 ghost use Rattle.answers.specs.Said.{fine, said_check};
 ghost use Rattle.packet.specs.Packet.{field, packet_verdict, packed_blocks, packed_steps, packed_lengths, packed_levels, twos_complement, Room, Unpacked};

@@ -1,4 +1,7 @@
 // Bits and error are separate counters, and only a price brings them together.
+
+#![tactic(auto)]
+
 ghost use Rattle.std.specs.Prelude.{◌≡◌, ◌≤◌};
 ghost use Rattle.block.specs.Limits.{most_bits, most_error};
 ghost use Rattle.price.specs.Price.{Accepted, made_of, cost_of};
@@ -7,20 +10,20 @@ const MOST_ON_ERROR: u64 = 65535;
 
 const MOST_ON_BITS: u64 = 8000000000000;
 
-#[derive(Drop)]
+#[derive(Clone, Copy)]
 pub struct Bits(pub u64);
 
-#[derive(Drop)]
+#[derive(Clone, Copy)]
 pub struct Error(pub u64);
 
-#[derive(Drop)]
+#[derive(Clone, Copy)]
 pub struct Price {
     pub a: u64,
     pub b: u64,
 }
 
 // What making a price answers: the price, or which of its numbers is outside its range (1 for a, 2 for b).
-#[derive(Drop)]
+#[derive(Clone, Copy)]
 pub enum Made {
     Price(Price),
     Outside(u64),

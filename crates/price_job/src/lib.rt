@@ -1,4 +1,7 @@
 // The price job: every block of a still decided at a price, or a refusal that stores nothing.
+
+#![tactic(auto)]
+
 ghost use Rattle.std.specs.Prelude.{◌≡◌, ◌/◌, length};
 ghost use Rattle.price.specs.Price.{Accepted};
 ghost use Rattle.attained.specs.Attained.{block_at};

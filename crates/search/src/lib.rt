@@ -1,4 +1,7 @@
 // The best choice of one block at a price: the table of bits, once a still; the block's levels, gathered; the search.
+
+#![tactic(auto)]
+
 ghost use Rattle.std.specs.Prelude.{◌≡◌, false, ◌+◌, ◌*◌, ◌-◌, ◌≤◌, ◌<◌, nat_abs, length, get_or};
 ghost use Rattle.block.specs.Level.{ac_level};
 ghost use Rattle.block.specs.Limits.{Levels, Steps, Lengths};

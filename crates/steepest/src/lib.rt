@@ -1,4 +1,7 @@
 // Which of n blocks has the steepest way to its next corner: a tournament, mended in log n duels after one block's way has changed.
+
+#![tactic(auto)]
+
 ghost use Rattle.std.specs.Prelude.{◌≡◌, ◌*◌, ◌≤◌, length, get_or};
 ghost use Rattle.steepest.specs.Slope.{Slope, Slopes};
 ghost use Rattle.steepest.specs.Tree.{Tree, Stale};

@@ -1,4 +1,7 @@
 // The checks of what is lent to a job, refusals 1 to 6 and 10, joined in the order of their numbers.
+
+#![tactic(auto)]
+
 ghost use Rattle.std.specs.Prelude.{◌≡◌, false, ◌&&◌, ◌+◌, ◌*◌, ◌/◌, ◌≤◌, ◌<◌, eqb, ltb, nat_abs, length};
 ghost use Rattle.block.specs.First.{first_below};
 ghost use Rattle.answers.specs.Said.{number_of, said_check, when};

@@ -1,4 +1,7 @@
 // The text of the list program's answers, put into lent bytes.
+
+#![tactic(auto)]
+
 ghost use Rattle.std.specs.Prelude.{[], ◌∷◌, ◌++◌, ◌+◌, ◌*◌, ◌≤◌, length};
 ghost use Rattle.text.specs.Text.{decimal, line, corner_lines, corners_text, refused_text, Holds};
 ghost use Rattle.text.specs.Put.{Put};

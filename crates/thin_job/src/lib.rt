@@ -1,4 +1,7 @@
 // The thinning job: levels that are not kept become 0, or a refusal that stores nothing.
+
+#![tactic(auto)]
+
 ghost use Rattle.std.specs.Prelude.{◌≡◌, ◌*◌, eqb, pos, length};
 ghost use Rattle.block.specs.First.{pick};
 ghost use Rattle.thin_job.specs.ThinJob.{stays_at, Thinned, ThinMeets};

@@ -1,4 +1,7 @@
 // The still walks along its corners, past all of them, and lists them.
+
+#![tactic(auto)]
+
 ghost use Rattle.std.specs.Prelude.{◌≤◌};
 ghost use Rattle.attained.specs.Attained.{block_at};
 ghost use Rattle.forward.specs.Given.{Room};

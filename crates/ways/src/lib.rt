@@ -1,4 +1,7 @@
 // A block's way on from its corner: the run and the fall to its next corner.
+
+#![tactic(auto)]
+
 ghost use Rattle.std.specs.Prelude.{◌≡◌, length, ◌+◌, ◌*◌, ◌≤◌, ◌<◌};
 ghost use Rattle.block.specs.Level.{block_of};
 ghost use Rattle.block.specs.Limits.{Levels, Steps};
@@ -18,7 +21,7 @@ use search::gather;
 const MOST_KNOWN: usize = 8;
 
 // How many corners are known ahead of a block, and the run and the fall to the nearest, its next.
-#[derive(Drop)]
+#[derive(Clone, Copy)]
 pub struct Ahead {
     pub height: usize,
     pub run: u64,

@@ -1,4 +1,7 @@
 // The best choices of all blocks of a still at a price.
+
+#![tactic(auto)]
+
 ghost use Rattle.std.specs.Prelude.{◌/◌, ◌≤◌, length};
 ghost use Rattle.price.specs.Price.{Accepted};
 ghost use Rattle.attained.specs.Attained.{block_at};
@@ -9,7 +12,7 @@ use forward::Decision;
 use price::{Bits, Error, Price};
 
 // The bits and the error of all blocks together, or the first block that has no codable choice.
-#[derive(Drop)]
+#[derive(Clone, Copy)]
 pub enum Outcome {
     All(Bits, Error),
     Uncodable(usize),

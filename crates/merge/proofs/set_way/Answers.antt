@@ -1,0 +1,51 @@
+use mathlib.Core.Path.{refl}
+use native.Mathlib.Omega.{arith}
+use Rattle.merge.proofs.set_way.Reads as reads
+use Rattle.merge.proofs.set_way.Lts as lts
+use Rattle.merge.proofs.way_from.Reads as way-from-reads
+use Rattle.merge.proofs.set_way.Goals as goal
+
+-- src/lib.rt:100:9
+pub way_from-w-requires : goal.way_from-w-requires
+way_from-w-requires c =
+    let p = c.requires in record {
+      one_block = p.one_block;
+      room = p.room;
+      room_2 = p.room_2;
+      k_in_bounds = p.k_in_bounds.3;
+      sees = p.sees;
+    }
+
+-- src/lib.rt:104:5
+pub offset_bounds-run-k : goal.offset_bounds-run-k
+offset_bounds-run-k c = omega (arith, c.requires.one_block.few)
+
+-- src/lib.rt:104:5
+pub bounds-run-k : goal.bounds-run-k
+bounds-run-k c = c.requires.k_in_bounds.0
+
+-- src/lib.rt:105:5
+pub offset_bounds-fall-k : goal.offset_bounds-fall-k
+offset_bounds-fall-k c = omega (arith, c.requires.one_block.few)
+
+-- src/lib.rt:105:5
+pub bounds-fall-k : goal.bounds-fall-k
+bounds-fall-k c = c.requires.k_in_bounds.1
+
+-- src/lib.rt:106:5
+pub offset_bounds-height-k : goal.offset_bounds-height-k
+offset_bounds-height-k c = omega (arith, c.requires.one_block.few)
+
+-- src/lib.rt:106:5
+pub bounds-height-k : goal.bounds-height-k
+bounds-height-k c = c.requires.k_in_bounds.2
+
+-- src/lib.rt:71:1
+pub returns : goal.returns
+returns c = record {
+  way = c.way_from-w.result;
+  found = c.way_from-w.ensures;
+  run_is = record { is = refl };
+  fall_is = record { is = refl };
+  height_is = record { is = refl };
+}
