@@ -8,14 +8,17 @@
 // `quantizer=V`: the steps are V; `rise=V`: they are V, V + 1, V + 2 and so on; `table=V`: the lengths are V,
 // `a`, `b`: the price.
 // What must be printed is the output of tests/cases.c, which makes the same calls of the independent implementation.
+
+#![tactic(auto)]
+
 mod call;
 mod line;
 mod tell;
 mod word;
 
-use libc::STDIN_FILENO;
+use std::io;
 
-fn run(cases: &[u8]) {
+fn run(rt: &impl Print, cases: &[u8]) -> io::Result<()> {
     let mut call = call::sound();
     let mut word = word::new();
     for i in 0..cases.len() {
@@ -24,16 +27,17 @@ fn run(cases: &[u8]) {
             call = call.with(word);
         }
         if c == b'\n' {
-            line::answer(call.with(word));
+            line::answer(rt, call.with(word))?;
             call = call::sound();
         }
         word = word.read(c);
-        tell::echo(c);
+        tell::echo(rt, c)?;
     }
+    Ok(())
 }
 
-fn main() {
-    let mut room = io::large_buffer();
-    let n = io::read_full(STDIN_FILENO, &mut room);
-    run(&room[..n]);
+fn main(rt: HostRuntime) -> io::Result<()> {
+    let mut room = [0u8; 65536];
+    let n = input::read_full(&mut rt.stdin(), &mut room)?;
+    run(&rt, &room[..n])
 }

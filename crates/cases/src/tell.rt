@@ -1,30 +1,30 @@
 // What is printed behind a case: the answer, and what was lent, afterwards.
 use answers::{CornersAnswer, KeptAnswer, PointAnswer, Refusal};
-use libc::STDOUT_FILENO;
+use std::io;
 
 // As many numbers are told one by one.
 const SHORT: usize = 24;
 
-fn text(s: &[u8]) {
-    io::write_all(STDOUT_FILENO, s);
+fn text(rt: &impl Print, s: &[u8]) -> io::Result<()> {
+    rt.write_all(s)
 }
 
-pub fn echo(c: u8) {
-    text(&[c]);
+pub fn echo(rt: &impl Print, c: u8) -> io::Result<()> {
+    text(rt, &[c])
 }
 
-fn number(x: u64) {
-    echo(b' ');
-    io::print_decimal(STDOUT_FILENO, x);
+fn number(rt: &impl Print, x: u64) -> io::Result<()> {
+    print!(rt; " {x}")
 }
 
 // The first ones, `most` at most.
-fn numbers(xs: &[u64], most: usize) {
+fn numbers(rt: &impl Print, xs: &[u64], most: usize) -> io::Result<()> {
     for i in 0..most {
         if i < xs.len() {
-            number(xs[i]);
+            number(rt, xs[i])?;
         }
     }
+    Ok(())
 }
 
 // A number that each place and the order of the places count for.
@@ -38,86 +38,79 @@ fn sum(xs: &[u64]) -> u64 {
 
 // All of a short slice. Of a longer one the first six numbers; three before and three behind the end of what is stored;
 // the sum.
-fn slice(name: &[u8], xs: &[u64], end: usize) {
-    text(name);
+fn slice(rt: &impl Print, name: &[u8], xs: &[u64], end: usize) -> io::Result<()> {
+    text(rt, name)?;
     if xs.len() <= SHORT {
-        numbers(xs, SHORT);
-        return;
+        return numbers(rt, xs, SHORT);
     }
-    numbers(xs, 6);
-    echo(b';');
+    numbers(rt, xs, 6)?;
+    echo(rt, b';')?;
     let from = if end < 3 { 0 } else { end - 3 };
     if from <= xs.len() {
-        numbers(&xs[from..], 6);
+        numbers(rt, &xs[from..], 6)?;
     }
-    echo(b';');
-    number(sum(xs));
+    echo(rt, b';')?;
+    number(rt, sum(xs))
 }
 
 // Block, position and value.
-fn level(i: usize, v: i16) {
-    number((i / 64) as u64);
-    echo(b'/');
-    io::print_decimal(STDOUT_FILENO, (i % 64) as u64);
-    echo(b'=');
-    if v < 0 {
-        echo(b'-');
-    }
-    io::print_decimal(STDOUT_FILENO, block::magnitude(v));
+fn level(rt: &impl Print, i: usize, v: i16) -> io::Result<()> {
+    print!(rt; " {}/{}={v}", i / 64, i % 64)
 }
 
-fn nonzero(levels: &[i16]) {
-    text(b", levels");
+fn nonzero(rt: &impl Print, levels: &[i16]) -> io::Result<()> {
+    text(rt, b", levels")?;
     for i in 0..levels.len() {
         let v = levels[i];
         if v != 0 {
-            level(i, v);
+            level(rt, i, v)?;
         }
     }
+    Ok(())
 }
 
-fn refusal(r: Refusal) {
+fn refusal(rt: &impl Print, r: Refusal) -> io::Result<()> {
     let kind = r.kind;
-    text(b": refused");
-    number(answers::number(kind));
-    number(r.first);
-    number(r.second);
+    text(rt, b": refused")?;
+    number(rt, answers::number(kind))?;
+    number(rt, r.first)?;
+    number(rt, r.second)
 }
 
-pub fn point(r: PointAnswer, keep: &[u64]) {
+pub fn point(rt: &impl Print, r: PointAnswer, keep: &[u64]) -> io::Result<()> {
     match r {
         PointAnswer::Point(p) => {
-            text(b": point");
-            number(p.bits.0);
-            number(p.error.0);
-            number(p.kept);
+            text(rt, b": point")?;
+            number(rt, p.bits.0)?;
+            number(rt, p.error.0)?;
+            number(rt, p.kept)?;
         }
-        PointAnswer::Refused(r) => refusal(r),
+        PointAnswer::Refused(r) => refusal(rt, r)?,
     }
-    slice(b", keep", keep, keep.len());
+    slice(rt, b", keep", keep, keep.len())
 }
 
-pub fn corners(r: CornersAnswer, list: &[u64]) {
+pub fn corners(rt: &impl Print, r: CornersAnswer, list: &[u64]) -> io::Result<()> {
     let mut end = 0;
     match r {
         CornersAnswer::Corners(n) => {
-            text(b": corners");
-            number(n);
+            text(rt, b": corners")?;
+            number(rt, n)?;
             end = 3 * ((n % 65536) as usize);
         }
-        CornersAnswer::Refused(r) => refusal(r),
+        CornersAnswer::Refused(r) => refusal(rt, r)?,
     }
-    slice(b", list", list, end);
+    slice(rt, b", list", list, end)
 }
 
-pub fn kept(r: KeptAnswer, keep: &[u64], levels: &[i16]) {
+pub fn kept(rt: &impl Print, r: KeptAnswer, keep: &[u64], levels: &[i16]) -> io::Result<()> {
     match r {
         KeptAnswer::Kept(n) => {
-            text(b": kept");
-            number(n);
+            text(rt, b": kept")?;
+            number(rt, n)?;
         }
-        KeptAnswer::Refused(r) => refusal(r),
+        KeptAnswer::Refused(r) => refusal(rt, r)?,
     }
-    slice(b", keep", keep, keep.len());
-    nonzero(levels);
+    slice(rt, b", keep", keep, keep.len())?;
+    nonzero(rt, levels)
 }

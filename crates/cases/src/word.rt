@@ -1,5 +1,5 @@
 // A word of a case, read byte by byte: `list`, `levels=63`, `level[67]=-1024`.
-#[derive(Drop)]
+#[derive(Clone, Copy)]
 pub struct Word {
     // The first letter; 0 before it is read.
     pub letter: u8,

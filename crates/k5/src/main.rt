@@ -1,24 +1,28 @@
 // Prints Table K.5 as the library holds it, a row for each run. What it must print is made of the standard's own form
 // of the table, sixteen counts and 162 values, by tests/k5.awk.
+
+#![tactic(auto)]
+
 use block::tables::K5;
-use libc::STDOUT_FILENO;
+use std::io;
 
 fn wide(x: u8) -> u64 {
     x as u64
 }
 
-fn end_of(i: usize) {
+fn end_of(rt: &impl Print, i: usize) -> io::Result<()> {
     if i % 16 == 15 {
-        io::write_all(STDOUT_FILENO, b"\n");
+        rt.write_all(b"\n")
     } else {
-        io::write_all(STDOUT_FILENO, b" ");
+        rt.write_all(b" ")
     }
 }
 
-fn main() {
+fn main(rt: HostRuntime) -> io::Result<()> {
     let table = K5;
     for i in 0..256 {
-        io::print_decimal(STDOUT_FILENO, wide(table[i]));
-        end_of(i);
+        print!(rt; "{}", wide(table[i]))?;
+        end_of(&rt, i)?;
     }
+    Ok(())
 }
