@@ -1,4 +1,7 @@
 // The head-end's call: a packed still fitted into a budget, its keep numbers in a buffer of bytes.
+
+#![tactic(auto)]
+
 ghost use Rattle.std.specs.Prelude.{◌≡◌, ◌*◌, ◌≤◌, ◌<◌, length, replicate};
 ghost use Rattle.answers.specs.Said.{number_of, said_point};
 ghost use Rattle.packet.specs.Packet.{packed_blocks, Room};
@@ -78,8 +81,7 @@ fn fit_packed(
     number
 }
 
-#[unsafe(no_mangle)]
-pub extern "C" fn anb_budget(packet: &[u8], budget: u32, keep: &mut [u8]) -> u32
+pub fn anb_budget(packet: &[u8], budget: u32, keep: &mut [u8]) -> u32
     ensures { HeadEndMeets packet.now budget keep.old result keep.new }
 {
     match packet::check(packet) {

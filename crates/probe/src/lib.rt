@@ -1,4 +1,7 @@
 // The jobs for C, for tests and benchmarks only: each answer is told in four numbers.
+
+#![tactic(auto)]
+
 ghost use Rattle.std.specs.Prelude.{◌≡◌, [], ◌∷◌, length};
 ghost use Rattle.answers.specs.Said.{said_point, said_corners, said_kept, said_refusal};
 ghost use Rattle.probe.specs.Told.{told};
@@ -54,8 +57,7 @@ fn tell_kept(r: KeptAnswer, answer: &mut [u64])
     }
 }
 
-#[unsafe(no_mangle)]
-pub extern "C" fn anb_price(
+pub fn anb_price(
     levels: &[i16],
     steps: &[u8],
     lengths: &[u8],
@@ -73,14 +75,7 @@ pub extern "C" fn anb_price(
     tell_point(r, answer);
 }
 
-#[unsafe(no_mangle)]
-pub extern "C" fn anb_list(
-    levels: &[i16],
-    steps: &[u8],
-    lengths: &[u8],
-    list: &mut [u64],
-    answer: &mut [u64],
-)
+pub fn anb_list(levels: &[i16], steps: &[u8], lengths: &[u8], list: &mut [u64], answer: &mut [u64])
     ensures { ListTold levels.now steps.now lengths.now list.old list.new answer.old answer.new }
 {
     if answer.len() != 4 {
@@ -90,8 +85,7 @@ pub extern "C" fn anb_list(
     tell_corners(r, answer);
 }
 
-#[unsafe(no_mangle)]
-pub extern "C" fn anb_fit(
+pub fn anb_fit(
     levels: &[i16],
     steps: &[u8],
     lengths: &[u8],
@@ -108,8 +102,7 @@ pub extern "C" fn anb_fit(
     tell_point(r, answer);
 }
 
-#[unsafe(no_mangle)]
-pub extern "C" fn anb_thin(levels: &mut [i16], keep: &[u64], answer: &mut [u64])
+pub fn anb_thin(levels: &mut [i16], keep: &[u64], answer: &mut [u64])
     ensures { ThinTold levels.old levels.new keep.now answer.old answer.new }
 {
     if answer.len() != 4 {
