@@ -4,7 +4,7 @@
 #   make test       the gate: all proofs and all tests
 #   make install    header, library and program; PREFIX and DESTDIR as usual
 #   make bench      times the proved jobs against plain C
-#   make clean      removes all that was built
+#   make clean      removes all that was built, and what rt keeps of proofs
 PREFIX ?= /usr/local
 INSTALL ?= install
 
@@ -12,7 +12,7 @@ program := target/bin/stops
 archive := target/staticlib/libheadend.a
 header := include/anubeshogwi.h
 sample := samples/camera_q50.pkt
-crates := crates.txt $(shell find crates -name '*.rt' -o -name '*.antt')
+crates := crates.txt $(shell find crates -path '*/out' -prune -o -name '*.rt' -print -o -name '*.antt' -print)
 machine := . tests/machine.sh
 
 .PHONY: all run test install bench clean
@@ -25,17 +25,15 @@ all: $(program) $(archive)
 
 # Only what is proved is built; the first time, what they rest on is proved before them.
 $(program): $(crates)
-	@$(machine); need_rt
-	rt check stops
+	@$(machine); need_rt && program stops
 	@touch $@
 
 $(archive): $(crates)
-	@$(machine); need_rt
-	rt staticlib headend
+	@$(machine); need_rt && archive headend
 	@touch $@
 
 run: $(program)
-	@$(machine); run $(program) <$(sample) >target/stops.txt
+	@$(program) <$(sample) >target/stops.txt
 	@awk -v sample=$(sample) -f examples/show.awk target/stops.txt
 	@echo "All of them: target/stops.txt"
 
@@ -52,4 +50,4 @@ bench:
 	@bench/run
 
 clean:
-	rm -rf target
+	rm -rf target crates/*/out

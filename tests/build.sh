@@ -2,14 +2,12 @@
 # Builds the tests from outside.
 # Usage: tests/build.sh OUT                    what needs no library: self, packets, cases, plain_stops and plain_head_end
 #        tests/build.sh OUT PROGRAM ARCHIVE    price, lists, headend or the example head_end, linked with the library
-# CC compiles for this machine, LIBRARY_CC for the library's.
+# CC compiles them.
 set -eu
 case $# in 1 | 3) ;; *) echo "usage: tests/build.sh OUT [PROGRAM ARCHIVE]" >&2; exit 2 ;; esac
 out=$1
 top=$(dirname "$0")/..
 here=$top/tests
-# shellcheck source=tests/machine.sh
-. "$here/machine.sh"
 mkdir -p "$out"
 flags="-std=c11 -D_DEFAULT_SOURCE -Wall -Wextra -O2 ${CFLAGS:-} -I$top/include"
 plain="$here/plain.c $here/stops.c $here/definition.c $here/programme.c $here/packed.c $here/k5.c"
@@ -26,9 +24,9 @@ case ${2:-} in
     ${CC:-cc} $flags -o "$out/plain_stops" "$here/plain_stops.c" $plain
     ${CC:-cc} $flags -o "$out/plain_head_end" "$example" "$here/plain_budget.c" $plain
     ;;
-head_end) $library_cc $flags -o "$out/head_end" "$example" "$3" ;;
+head_end) ${CC:-cc} $flags -o "$out/head_end" "$example" "$3" ;;
 *)
-    $library_cc $flags -pthread -I"$top/bench" -o "$out/$2" "$here/$2.c" "$here/groups.c" "$here/faults.c" "$here/lent.c" \
+    ${CC:-cc} $flags -pthread -I"$top/bench" -o "$out/$2" "$here/$2.c" "$here/groups.c" "$here/faults.c" "$here/lent.c" \
         "$here/tally.c" "$top/bench/stack.c" $made "$3"
     ;;
 esac

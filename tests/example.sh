@@ -10,7 +10,6 @@ set -eu
 tools=$1
 program=$2
 cd "$(dirname "$0")/.."
-. tests/machine.sh
 . tests/tally.sh
 samples=${SAMPLES:-samples}
 room=$(mktemp -d)
@@ -18,7 +17,7 @@ trap 'rm -rf "$room"' EXIT
 
 # same PACKET BUDGET: both print the same and end with the same status
 same() {
-    run "$program" "$1" "$2" >"$room/printed" 2>&1 && echo 0 >>"$room/printed" || echo $? >>"$room/printed"
+    "$program" "$1" "$2" >"$room/printed" 2>&1 && echo 0 >>"$room/printed" || echo $? >>"$room/printed"
     "$tools/plain_head_end" "$1" "$2" >"$room/expected" 2>&1 && echo 0 >>"$room/expected" || echo $? >>"$room/expected"
     cmp -s "$room/printed" "$room/expected" && return
     echo "      $1, budget $2: printed $(head -n 1 "$room/printed"), expected $(head -n 1 "$room/expected")"

@@ -1,22 +1,13 @@
 # shellcheck shell=sh
-# What the scripts need to know of this machine; read in by `. tests/machine.sh` at the top of the repository.
-# The toolchain compiles for x86-64. Elsewhere C for the library takes Debian's cross compiler, and what was built runs under
-# the toolchain's emulator. CC compiles for this machine, LIBRARY_CC for x86-64.
-machine=$(uname -m)
-kit=${RATTLE_HOME:-$(dirname "$(dirname "$(readlink -f "$(command -v rt || echo /missing/bin/rt)")")")}
-toolchain=$kit/on/$machine/toolchain
-if [ "$machine" = x86_64 ]; then
-    library_cc=${LIBRARY_CC:-${CC:-cc}}
-else
-    library_cc=${LIBRARY_CC:-x86_64-linux-gnu-gcc -static}
-fi
+# What the scripts need of this machine and of the toolchain; read in by `. tests/machine.sh` at the top of the repository.
+# The toolchain runs on x86-64 Linux and compiles for it. CC compiles the C.
 
 # need_rt: fails where the toolchain is missing, and tells how to get it
 need_rt() {
     command -v rt >/dev/null && return
     cat >&2 <<'MISSING'
 rt, the command of the Rattle toolchain, is not on the PATH.
-Unpack the Rattle kit (for Linux on x86-64 or Arm, glibc 2.34 or newer) and put its folder bin on the PATH:
+Unpack the Rattle kit (for Linux on x86-64) and put its folder bin on the PATH:
     export PATH=/path/to/the/kit/bin:$PATH
 MISSING
     return 1
@@ -33,18 +24,23 @@ need() {
     return 1
 }
 
-# need_cc: compilers for C, for this machine and for x86-64
+# need_cc: a compiler for C
 need_cc() {
-    need "${CC:-cc}" gcc libc6-dev && need "${library_cc%% *}" gcc-x86-64-linux-gnu
+    need "${CC:-cc}" gcc libc6-dev
 }
 
-# run PROGRAM [ARGUMENT...]: a program for this machine or for x86-64. One that is linked as it starts, as the toolchain's
-# are, gets the toolchain's C library. Bytes 16 to 18 of the file tell which it is.
-run() {
-    case $machine$(od -An -tx1 -j16 -N3 "$1" | tr -d ' ') in
-    x86_64*) "$@" ;;
-    *02003e) "$toolchain/bin/qemu-x86_64" "$@" ;;
-    *03003e) "$toolchain/bin/qemu-x86_64" "$toolchain/lib/ld-linux-x86-64.so.2" --library-path "$toolchain/lib" "$@" ;;
-    *) "$@" ;;
-    esac
+# prove CRATE: proves it over what lies below it, and tells how many axioms it rests on
+prove() {
+    (cd "crates/$1" && rt check)
+}
+
+# archive NAME: proves and builds the library that C links, target/staticlib/libNAME.a, of the crate NAME_c
+archive() {
+    (cd "crates/$1_c" && rt lib) && mkdir -p target/staticlib &&
+        cp "crates/$1_c/out/lib$1_c.a" "target/staticlib/lib$1.a"
+}
+
+# program NAME: proves and builds target/bin/NAME. rt runs what it has built; here it gets no input, and its output is dropped
+program() {
+    (cd "crates/$1" && rt run </dev/null >/dev/null) && mkdir -p target/bin && cp "crates/$1/out/$1" "target/bin/$1"
 }
