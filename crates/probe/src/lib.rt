@@ -1,4 +1,4 @@
-// The jobs for C, for tests and benchmarks only: each answer is told in four numbers.
+// The jobs as `probe_c` exports them for C, for tests and benchmarks only: each answer is told in four numbers.
 
 #![tactic(auto)]
 

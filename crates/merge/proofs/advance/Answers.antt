@@ -1,3 +1,4 @@
+-- `merge::advance` meets its contract: each turn moves one block whose way is as steep as the first, until none is left.
 use mathlib.Core.Path.{◌∙◌}
 use native.Mathlib.Omega.{arith}
 use Rattle.merge.proofs.Pass.{pass_end, passing_long, passing_stale}
@@ -9,7 +10,6 @@ use Rattle.steepest.proofs.mend.Reads as mend-reads
 use Rattle.steepest.proofs.top.Reads as top-reads
 use Rattle.merge.proofs.advance.Goals as goal
 
--- src/lib.rt:212:12
 pub offset_bounds-fall-k : goal.offset_bounds-fall-k
 offset_bounds-fall-k c =
     let T = c.loop-fall.invariant.1 in
@@ -17,7 +17,6 @@ offset_bounds-fall-k c =
     let k = steepest_at T.tournament c.top-k.ensures in
     omega (arith, k.within, p.task.sound.still.most)
 
--- src/lib.rt:212:12
 pub bounds-fall-k : goal.bounds-fall-k
 bounds-fall-k c =
     let P = c.loop-fall.invariant.0 in
@@ -26,7 +25,6 @@ bounds-fall-k c =
     let k = steepest_at T.tournament c.top-k.ensures in
     omega (arith, k.within, (passing_long P).fall)
 
--- src/lib.rt:212:12
 pub overflow_mul-fall : goal.overflow_mul-fall
 overflow_mul-fall c =
     let P = c.loop-fall.invariant.0 in
@@ -34,7 +32,6 @@ overflow_mul-fall c =
     let k = steepest_at T.tournament c.top-k.ensures in
     omega (arith, (products P.from T.tournament k.within).0)
 
--- src/lib.rt:212:31
 pub offset_bounds-run-k : goal.offset_bounds-run-k
 offset_bounds-run-k c =
     let T = c.loop-fall.invariant.1 in
@@ -42,7 +39,6 @@ offset_bounds-run-k c =
     let k = steepest_at T.tournament c.top-k.ensures in
     omega (arith, k.within, p.task.sound.still.most)
 
--- src/lib.rt:212:31
 pub bounds-run-k : goal.bounds-run-k
 bounds-run-k c =
     let P = c.loop-fall.invariant.0 in
@@ -50,7 +46,6 @@ bounds-run-k c =
     let k = steepest_at T.tournament c.top-k.ensures in
     omega (arith, k.within, (passing_long P).run)
 
--- src/lib.rt:212:27
 pub overflow_mul-f : goal.overflow_mul-f
 overflow_mul-f c =
     let P = c.loop-fall.invariant.0 in
@@ -58,7 +53,6 @@ overflow_mul-f c =
     let k = steepest_at T.tournament c.top-k.ensures in
     omega (arith, (products P.from T.tournament k.within).1)
 
--- src/lib.rt:213:13
 pub returns-then-fall-k : goal.returns-then-fall-k
 returns-then-fall-k c =
     let P = c.loop-fall.invariant.0 in
@@ -66,7 +60,6 @@ returns-then-fall-k c =
     let k = steepest_at T.tournament c.top-k.ensures in
     pass_end P T.tournament k c.if-fall-k.true
 
--- src/lib.rt:215:9
 pub move_block-p-requires : goal.move_block-p-requires
 move_block-p-requires c =
     let P = c.loop-fall.invariant.0 in
@@ -80,7 +73,6 @@ move_block-p-requires c =
       may_move = may_move_lem P (task_limits p.task) k.within par p.task.sound.still.most;
     }
 
--- src/lib.rt:219:9
 pub mend-requires : goal.mend-requires
 mend-requires c =
     let P = c.loop-fall.invariant.0 in
@@ -92,7 +84,6 @@ mend-requires c =
     let M = c.move_block-p.ensures in
     passing_stale (passed_on P limits k.within par M) limits p.task.low_most k.within T.tournament M
 
--- src/lib.rt:210:5
 pub loop-fall-smaller : goal.loop-fall-smaller
 loop-fall-smaller c =
     let P = c.loop-fall.invariant.0 in
@@ -108,7 +99,6 @@ loop-fall-smaller c =
       passing_most (passed_on P limits k.within par M) limits,
     )
 
--- src/lib.rt:210:5
 pub loop-fall-preserved : goal.loop-fall-preserved
 loop-fall-preserved c =
     let P = c.loop-fall.invariant.0 in

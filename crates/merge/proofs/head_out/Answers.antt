@@ -1,3 +1,4 @@
+-- `merge::head_out` meets its contract: each turn sends one block more on its way.
 use mathlib.Core.Path.{◌∙◌}
 use native.Mathlib.Omega.{arith}
 use Rattle.merge.proofs.SettingOut.{sees_goal, heading_more}
@@ -8,7 +9,6 @@ use Rattle.merge.proofs.aim.Reads as aim-reads
 use Rattle.merge.proofs.set_way.Reads as set-way-reads
 use Rattle.merge.proofs.head_out.Goals as goal
 
--- src/lib.rt:157:9
 pub set_way-requires : goal.set_way-requires
 set_way-requires c =
     let p = c.requires in
@@ -22,7 +22,6 @@ set_way-requires c =
       sees = sees_goal p.some_ends.ends l a (omega (arith, s.far_long));
     }
 
--- src/lib.rt:155:5
 pub loop-i-preserved : goal.loop-i-preserved
 loop-i-preserved c =
     let s = c.loop-i.invariant.setting in

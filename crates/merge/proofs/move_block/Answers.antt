@@ -1,9 +1,9 @@
+-- `merge::move_block` meets its contract: a block at its next corner has a way on from there.
 use mathlib.Core.Path.{refl}
 use native.Mathlib.Omega.{arith}
 use Rattle.merge.proofs.Moving.{sees_on, moved}
 use Rattle.merge.proofs.move_block.Goals as goal
 
--- src/lib.rt:168:5
 pub set_way-requires : goal.set_way-requires
 set_way-requires c =
     let p = c.requires in
@@ -16,6 +16,5 @@ set_way-requires c =
       sees = sees_on m refl c.take_corner-p.ensures;
     }
 
--- src/lib.rt:137:1
 pub returns : goal.returns
 returns c = moved c.requires.may_move refl c.take_corner-p.ensures c.set_way.ensures

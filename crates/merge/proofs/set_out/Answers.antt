@@ -1,3 +1,4 @@
+-- `merge::set_out` meets its contract: all blocks head for their goals, and the tournament is built of their ways.
 use native.Mathlib.Omega.{arith}
 use Rattle.merge.proofs.SettingOut.{ends_addable, headed_slopes, set_out}
 use Rattle.merge.proofs.Advancing.{task_limits}
@@ -8,7 +9,6 @@ use Rattle.merge.proofs.together.Reads as together-reads
 use Rattle.steepest.proofs.build.Reads as build-reads
 use Rattle.merge.proofs.set_out.Goals as goal
 
--- src/lib.rt:233:5
 pub build-requires : goal.build-requires
 build-requires c =
     let p = c.requires in
@@ -18,13 +18,11 @@ build-requires c =
       room = p.n_in_bounds;
     }
 
--- src/lib.rt:234:5
 pub together-requires : goal.together-requires
 together-requires c =
     let p = c.requires in
     ends_addable p.ends (task_limits p.task) p.task.sound.still.most
 
--- src/lib.rt:196:1
 pub returns : goal.returns
 returns c =
     let p = c.requires in

@@ -1,3 +1,4 @@
+-- `merge::set_way` meets its contract: the three numbers of the way that is found stand in block k's places.
 use mathlib.Core.Path.{refl}
 use native.Mathlib.Omega.{arith}
 use Rattle.merge.proofs.set_way.Reads as reads
@@ -5,7 +6,6 @@ use Rattle.merge.proofs.set_way.Lts as lts
 use Rattle.merge.proofs.way_from.Reads as way-from-reads
 use Rattle.merge.proofs.set_way.Goals as goal
 
--- src/lib.rt:100:9
 pub way_from-w-requires : goal.way_from-w-requires
 way_from-w-requires c =
     let p = c.requires in record {
@@ -16,31 +16,24 @@ way_from-w-requires c =
       sees = p.sees;
     }
 
--- src/lib.rt:104:5
 pub offset_bounds-run-k : goal.offset_bounds-run-k
 offset_bounds-run-k c = omega (arith, c.requires.one_block.few)
 
--- src/lib.rt:104:5
 pub bounds-run-k : goal.bounds-run-k
 bounds-run-k c = c.requires.k_in_bounds.0
 
--- src/lib.rt:105:5
 pub offset_bounds-fall-k : goal.offset_bounds-fall-k
 offset_bounds-fall-k c = omega (arith, c.requires.one_block.few)
 
--- src/lib.rt:105:5
 pub bounds-fall-k : goal.bounds-fall-k
 bounds-fall-k c = c.requires.k_in_bounds.1
 
--- src/lib.rt:106:5
 pub offset_bounds-height-k : goal.offset_bounds-height-k
 offset_bounds-height-k c = omega (arith, c.requires.one_block.few)
 
--- src/lib.rt:106:5
 pub bounds-height-k : goal.bounds-height-k
 bounds-height-k c = c.requires.k_in_bounds.2
 
--- src/lib.rt:71:1
 pub returns : goal.returns
 returns c = record {
   way = c.way_from-w.result;

@@ -1,3 +1,4 @@
+-- `merge::together` meets its contract: each turn adds one block's corner.
 use Prim.Native.Nat.{◌-◌}
 use Rattle.merge.specs.SettingOut.{Adding}
 use Rattle.merge.proofs.together.Reads as reads

@@ -1,3 +1,4 @@
+-- `walk::list_corners` meets its contract: each turn lists one corner and goes on to the next, until the steepest way is flat.
 use mathlib.Core.Path.{refl, ◌∙◌}
 use native.Mathlib.Omega.{arith}
 use Rattle.merge.proofs.Pass.{as_long_itself, as_long_both}
@@ -6,13 +7,11 @@ use Rattle.walk.proofs.Going.{standing_most, more_bits}
 use Rattle.walk.proofs.Listing.{lists_start, lists_leaving, lists_more, lists_end}
 use Rattle.walk.proofs.list_corners.Goals as goal
 
--- src/lib.rt:66:5
 pub loop-p-init : goal.loop-p-init
 loop-p-init c =
     let p = c.requires in
     (lists_start p.first, record { same = as_long_itself; tree_same = refl; gathered = p.room; searched = p.room_2 })
 
--- src/lib.rt:68:17
 pub offset_bounds-run-k : goal.offset_bounds-run-k
 offset_bounds-run-k c =
     let W = c.loop-p.invariant.0 in
@@ -20,14 +19,12 @@ offset_bounds-run-k c =
     let k = steepest_at W.standing.tournament c.top-k.ensures in
     omega (arith, k.within, p.task.sound.still.most)
 
--- src/lib.rt:68:17
 pub bounds-run-k : goal.bounds-run-k
 bounds-run-k c =
     let W = c.loop-p.invariant.0 in
     let k = steepest_at W.standing.tournament c.top-k.ensures in
     omega (arith, k.within, W.standing.long.run)
 
--- src/lib.rt:69:17
 pub offset_bounds-fall-k : goal.offset_bounds-fall-k
 offset_bounds-fall-k c =
     let W = c.loop-p.invariant.0 in
@@ -35,32 +32,27 @@ offset_bounds-fall-k c =
     let k = steepest_at W.standing.tournament c.top-k.ensures in
     omega (arith, k.within, p.task.sound.still.most)
 
--- src/lib.rt:69:17
 pub bounds-fall-k : goal.bounds-fall-k
 bounds-fall-k c =
     let W = c.loop-p.invariant.0 in
     let k = steepest_at W.standing.tournament c.top-k.ensures in
     omega (arith, k.within, W.standing.long.fall)
 
--- src/lib.rt:70:9
 pub enter-requires : goal.enter-requires
 enter-requires c =
     let W = c.loop-p.invariant.0 in
     let p = c.requires in
     omega (arith, W.few, standing_most W.standing W.sums (task_limits p.task), p.task.sound.still.most)
 
--- src/lib.rt:71:9
 pub overflow_add-count : goal.overflow_add-count
 overflow_add-count c =
     let W = c.loop-p.invariant.0 in
     let p = c.requires in
     omega (arith, W.few, standing_most W.standing W.sums (task_limits p.task), p.task.sound.still.most)
 
--- src/lib.rt:73:13
 pub returns-then-f-eq0 : goal.returns-then-f-eq0
 returns-then-f-eq0 c = lists_end c.loop-p.invariant.0 c.enter.ensures c.top-k.ensures c.if-f-eq0.true
 
--- src/lib.rt:66:5
 pub loop-p-smaller : goal.loop-p-smaller
 loop-p-smaller c =
     let W = c.loop-p.invariant.0 in
@@ -72,7 +64,6 @@ loop-p-smaller c =
       standing_most A.standing A.sums (task_limits p.task),
     )
 
--- src/lib.rt:66:5
 pub loop-p-preserved : goal.loop-p-preserved
 loop-p-preserved c =
     let W = c.loop-p.invariant.0 in
