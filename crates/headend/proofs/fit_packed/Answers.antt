@@ -11,13 +11,13 @@ meets : (c : After-returned-number)
     → PackedMeets c.args.packet.now c.args.budget c.args.keep.now c.fit.result c.fit.new.keep
 meets c = packed c.unpack.ensures c.requires.zeros c.fit.ensures
 
-pub store-requires : goal.store-requires
-store-requires c = eight_each (meets (goal.at.store-requires c).After-returned-number) (sym c.returned-number.ensures ∙ c.if-number-eq0.true)
-
 pub returns-then-number-eq0 : goal.returns-then-number-eq0
 returns-then-number-eq0 c =
     answers c.requires.room.well _ _ (meets (goal.at.returns-then-number-eq0 c).After-returned-number) c.returned-number.ensures
     (c.store.ensures ∙ sym (simp (eq-eqb _ 0 c.if-number-eq0.true)))
+
+pub store-requires : goal.store-requires
+store-requires c = eight_each (meets (goal.at.store-requires c).After-returned-number) (sym c.returned-number.ensures ∙ c.if-number-eq0.true)
 
 pub returns-else-number-eq0 : goal.returns-else-number-eq0
 returns-else-number-eq0 c =

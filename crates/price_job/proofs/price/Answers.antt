@@ -14,6 +14,9 @@ fine-told : (c : In-Fine)
     → price_verdict c.args.levels.now c.args.steps.now c.args.lengths.now c.args.a c.args.b (length c.args.keep.now) ≡ fine
 fine-told c = sym c.check_price.ensures ∙ ap said_check c.in-Fine.is
 
+pub returns-in-Fine : goal.returns-in-Fine
+returns-in-Fine c = prices (fine-told (goal.at.returns-in-Fine c).In-Fine) c.decide.ensures
+
 pub decide-requires : goal.decide-requires
 decide-requires c =
     let f = price_verdict_fine _ _ _ _ _ _ (fine-told (goal.at.decide-requires c).In-Fine) in record {
@@ -24,6 +27,3 @@ decide-requires c =
 
 pub returns-in-Refused : goal.returns-in-Refused
 returns-in-Refused c = refuses _ _ _ (sym c.check_price.ensures ∙ ap said_check c.in-Refused.is) refl refl
-
-pub returns-in-Fine : goal.returns-in-Fine
-returns-in-Fine c = prices (fine-told (goal.at.returns-in-Fine c).In-Fine) c.decide.ensures

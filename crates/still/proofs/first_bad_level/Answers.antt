@@ -17,11 +17,11 @@ tested : (c : After-ac_level)
 unfolding bad_level
 tested c = ap (ltb 1023) (sym c.ac_level.ensures)
 
-pub returns-then-ac_level : goal.returns-then-ac_level
-returns-then-ac_level c = sym (first_next _ c.loop-i.invariant.1 c.loop-i-test.true (tested (goal.at.returns-then-ac_level c).After-ac_level ∙ lt-ltb _ _ c.if-ac_level.true))
-
 pub loop-i-preserved : goal.loop-i-preserved
 loop-i-preserved c = (search rules, passed_more c.loop-i.invariant.1 (tested (goal.at.loop-i-preserved c).After-ac_level ∙ le-ltb _ _ c.if-ac_level.false))
+
+pub returns-then-ac_level : goal.returns-then-ac_level
+returns-then-ac_level c = sym (first_next _ c.loop-i.invariant.1 c.loop-i-test.true (tested (goal.at.returns-then-ac_level c).After-ac_level ∙ lt-ltb _ _ c.if-ac_level.true))
 
 pub returns : goal.returns
 returns c =

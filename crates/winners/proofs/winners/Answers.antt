@@ -6,6 +6,17 @@ use borrow.Author.Rules.{rules}
 use lib.ListN.{length-set}
 use Rattle.winners.proofs.winners.Goals as goal
 
+pub loop-i-preserved : goal.loop-i-preserved
+loop-i-preserved c =
+    let l = c.loop-i in (
+      deciding_more l.invariant.0 c.loop-i-test.true c.decide.ensures _ c.in-Best.is,
+      search rules,
+      search rules,
+      simp length-set l.invariant.3,
+      simp length-set l.invariant.4,
+      simp length-set l.invariant.5,
+    )
+
 pub decide-requires : goal.decide-requires
 decide-requires c =
     let l = c.loop-i in record {
@@ -29,14 +40,3 @@ pub overflow_add-all_error : goal.overflow_add-all_error
 overflow_add-all_error c =
     let l = c.loop-i in
     omega (arith, l.invariant.0.sound.still.most, error_fits l.invariant.0 c.loop-i-test.true c.decide.ensures _ c.in-Best.is)
-
-pub loop-i-preserved : goal.loop-i-preserved
-loop-i-preserved c =
-    let l = c.loop-i in (
-      deciding_more l.invariant.0 c.loop-i-test.true c.decide.ensures _ c.in-Best.is,
-      search rules,
-      search rules,
-      simp length-set l.invariant.3,
-      simp length-set l.invariant.4,
-      simp length-set l.invariant.5,
-    )
