@@ -15,11 +15,11 @@ pub returns-then-n-lt2048 : goal.returns-then-n-lt2048
 unfolding twos_complement
 returns-then-n-lt2048 c = simp (lt-ltb _ _ c.if-n-lt2048.true) (to_z_pos w16 (omega arith))
 
-difference-fits : (n : ℕ) → 2048 ≤ n → n < 4096 → SFits w16 (pos n -ℤ pos 4096)
-difference-fits n l h = rw (negative n h) (record { sfits = omega arith })
+difference_fits : (n : ℕ) → 2048 ≤ n → n < 4096 → SFits w16 (pos n -ℤ pos 4096)
+difference_fits n l h = rw (negative n h) (record { sfits = omega arith })
 
 pub returns : goal.returns
 unfolding twos_complement
 returns c =
     rw (to_z_pos w16 {n = c.args.n} (omega arith))
-    (simp (le-ltb _ _ c.if-n-lt2048.false) (to_z-of_z {w = w16} (difference-fits c.args.n c.if-n-lt2048.false c.requires)))
+    (simp (le-ltb _ _ c.if-n-lt2048.false) (to_z-of_z {w = w16} (difference_fits c.args.n c.if-n-lt2048.false c.requires)))

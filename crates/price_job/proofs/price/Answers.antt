@@ -10,16 +10,16 @@ use Rattle.price_job.proofs.price.Goals as goal
 use Rattle.price_job.proofs.price.Goals.{In-Fine}
 
 -- what no refusal leaves
-fine-told : (c : In-Fine)
+fine_told : (c : In-Fine)
     → price_verdict c.args.levels.now c.args.steps.now c.args.lengths.now c.args.a c.args.b (length c.args.keep.now) ≡ fine
-fine-told c = sym c.check_price.ensures ∙ ap said_check c.in-Fine.is
+fine_told c = sym c.check_price.ensures ∙ ap said_check c.in-Fine.is
 
 pub returns-in-Fine : goal.returns-in-Fine
-returns-in-Fine c = prices (fine-told (goal.at.returns-in-Fine c).In-Fine) c.decide.ensures
+returns-in-Fine c = prices (fine_told (goal.at.returns-in-Fine c).In-Fine) c.decide.ensures
 
 pub decide-requires : goal.decide-requires
 decide-requires c =
-    let f = price_verdict_fine _ _ _ _ _ _ (fine-told (goal.at.decide-requires c).In-Fine) in record {
+    let f = price_verdict_fine _ _ _ _ _ _ (fine_told (goal.at.decide-requires c).In-Fine) in record {
       still = f.0;
       price = f.1;
       room = f.2;

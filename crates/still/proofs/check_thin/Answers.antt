@@ -24,18 +24,18 @@ joined c =
     c.then-lent.ensures
     ∙ then_same (c.then.ensures ∙ then_same c.check_levels.ensures c.check_keep_room.ensures) c.check_ac.ensures
 
-none-refused : (c : In-Fine) → lent (goal.at.In-Fine c).Start ≡ fine
-none-refused c = sym (joined (goal.at.In-Fine c).After-then-lent) ∙ ap said_check c.in-Fine.is
+none_refused : (c : In-Fine) → lent (goal.at.In-Fine c).Start ≡ fine
+none_refused c = sym (joined (goal.at.In-Fine c).After-then-lent) ∙ ap said_check c.in-Fine.is
 
 pub check_keep-requires : goal.check_keep-requires
 check_keep-requires c =
     let a = c.args in
-    let p = lent_fine a.levels.now a.keep.now (none-refused c) in
+    let p = lent_fine a.levels.now a.keep.now (none_refused c) in
     omega (arith, p.0.count, p.1)
 
 pub returns-in-Fine : goal.returns-in-Fine
 unfolding thin_verdict
-returns-in-Fine c = c.check_keep.ensures ∙ sym (then_on _ (none-refused (goal.at.returns-in-Fine c).In-Fine))
+returns-in-Fine c = c.check_keep.ensures ∙ sym (then_on _ (none_refused (goal.at.returns-in-Fine c).In-Fine))
 
 pub returns-in-Refused : goal.returns-in-Refused
 unfolding thin_verdict

@@ -12,13 +12,13 @@ use Rattle.thin_job.proofs.thin.Goals as goal
 use Rattle.thin_job.proofs.thin.Goals.{In-Fine}
 
 -- what no refusal leaves: the verdict, and from it the lengths
-fine-told : (c : In-Fine) → thin_verdict c.args.levels.now c.args.keep.now ≡ fine
-fine-told c = sym c.check_thin.ensures ∙ ap said_check c.in-Fine.is
+fine_told : (c : In-Fine) → thin_verdict c.args.levels.now c.args.keep.now ≡ fine
+fine_told c = sym c.check_thin.ensures ∙ ap said_check c.in-Fine.is
 
 lengths : (c : In-Fine)
     → (length c.args.levels.now ≡ 64 * length c.args.keep.now) × (length c.args.keep.now ≤ 1024)
 lengths c =
-    let f = thin_verdict_fine c.args.levels.now c.args.keep.now (fine-told c) in
+    let f = thin_verdict_fine c.args.levels.now c.args.keep.now (fine_told c) in
     (omega (arith, f.0.count, f.1.count), omega (arith, f.0.most, f.1.count))
 
 pub drop_levels-requires : goal.drop_levels-requires

@@ -16,17 +16,17 @@ use Rattle.ways.proofs.Seeking.{seeks_reaches, line_accepted, seeks_end, seeks_o
 use Rattle.ways.proofs.find_way.Goals as goal
 use Rattle.ways.proofs.find_way.Goals.{After-look-w, At-loop-gathered}
 
-abbrev blockIn : At-loop-gathered → Block
-blockIn t = block_of t.args.levels.now t.args.steps.now t.args.lengths.now
+abbrev block_in : At-loop-gathered → Block
+block_in t = block_of t.args.levels.now t.args.steps.now t.args.lengths.now
 
 abbrev from : At-loop-gathered → Pair
 from t = record { bits = t.args.corner_bits; error = t.args.corner_error }
 
-corner : (t : At-loop-gathered) → Corner (Attained (blockIn t)) (from t)
+corner : (t : At-loop-gathered) → Corner (Attained (block_in t)) (from t)
 corner t = t.requires.corner
 
 gathered : (t : At-loop-gathered)
-    → Given (blockIn t) t.gather-gathered.result.count t.gather-gathered.result.error.0
+    → Given (block_in t) t.gather-gathered.result.count t.gather-gathered.result.error.0
     t.gather-gathered.new.place t.gather-gathered.new.size t.gather-gathered.new.drop t.args.bits.now
 gathered t = given t.gather-gathered.ensures t.requires.table.table
 
@@ -35,7 +35,7 @@ line : (l : After-look-w)
 line l = l.line_to-price.ensures
 
 gives : (l : After-look-w)
-    → Gives (blockIn (goal.at.After-look-w l).At-loop-gathered) l.line_to-price.result.a l.line_to-price.result.b (pair_in l.look-w.result) l.look-w.result.keep
+    → Gives (block_in (goal.at.After-look-w l).At-loop-gathered) l.line_to-price.result.a l.line_to-price.result.b (pair_in l.look-w.result) l.look-w.result.keep
 gives l = l.look-w.ensures.gives _ (gathered (goal.at.After-look-w l).At-loop-gathered)
 
 pub line_to-price-requires : goal.line_to-price-requires
