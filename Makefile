@@ -4,7 +4,7 @@
 #   make test       the gate: all proofs and all tests
 #   make install    header, library and program; PREFIX and DESTDIR as usual
 #   make bench      times the proved jobs against plain C
-#   make clean      removes all that was built, and what rt keeps of proofs
+#   make clean      removes all that was built, and each crate's out/
 PREFIX ?= /usr/local
 INSTALL ?= install
 

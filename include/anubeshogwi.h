@@ -1,6 +1,6 @@
 /* Anubeshogwi: thins a still so that it fits its place in the slot. The call for the head-end.
 
-   Link with libheadend.a, x86-64 code for Linux that needs nothing else but memcpy and memset:
+   Link with libheadend.a, x86-64-v2 code for Linux that needs nothing else but memcpy and memset:
 
      cc -o head_end head_end.c -lheadend
 
