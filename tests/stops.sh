@@ -18,7 +18,7 @@ room=$(mktemp -d)
 trap 'rm -rf "$room"' EXIT
 : >"$room/refusals"
 
-# list: the program under test; its exit status is not part of what is promised
+# list: the program under test; of its exit status no more is promised than that it is 1 where a read or a write fails
 list() {
     "$program" || true
 }
@@ -119,6 +119,21 @@ expect "list program: a packet that arrives in pieces"
 echo "refused 11 24803 0" >"$room/expected"
 yes | list >"$room/printed"
 expect "list program: an input without end"
+
+# broken INPUT OUTPUT: a run that can't read or can't write ends with 1 and has printed nothing
+broken() {
+    compared=$((compared + 1))
+    status=0
+    "$program" <"$1" >"$2" 2>"$room/log" || status=$?
+    [ "$status" -eq 1 ] && [ ! -s "$2" ] && return
+    wrong=$((wrong + 1))
+    echo "      $name: from $1 to $2 it ended with $status"
+}
+
+begin "list program: an input that can't be read, an output that can't be written"
+broken "$room" "$room/printed"
+broken "$samples/camera_q50.pkt" /dev/full
+end
 
 begin "list program: every refusal that it can give"
 for number in 2 3 6 7 8 11; do

@@ -7,7 +7,7 @@ use native.Mathlib.Nat.{le_antisymm}
 use native.Mathlib.Decide.{dec_le}
 use native.Mathlib.Omega.{arith}
 use Rattle.block.specs.Block.{Block}
-use Rattle.block.specs.Choice.{CodableChoice, bits, error, keep_number}
+use Rattle.block.specs.Choice.{CodableChoice, bits, keep_number}
 use Rattle.block.specs.Limits.{Limits, most_bits, most_error}
 use Rattle.block.proofs.Bounds.{block_bits_most, block_error_most}
 use Rattle.price.specs.Best.{way, Before, cheaper, shorter, smaller, Best}

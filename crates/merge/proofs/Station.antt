@@ -1,7 +1,7 @@
 -- One block at its station: its course, the size of its way, and how it stays or goes on.
 -- Assumes nothing.
 use mathlib.Core.Path.{◌≡◌, ap, sym}
-use Prim.Native.Nat.{ℕ, ◌*◌, ◌-◌, ◌≤◌, ◌<◌}
+use Prim.Native.Nat.{ℕ, ◌*◌, ◌≤◌, ◌<◌}
 use native.Mathlib.Omega.{arith}
 use Rattle.block.specs.Block.{Block}
 use Rattle.block.specs.Limits.{Limits, most_bits, most_error}

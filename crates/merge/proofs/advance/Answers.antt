@@ -3,11 +3,6 @@ use mathlib.Core.Path.{◌∙◌}
 use native.Mathlib.Omega.{arith}
 use Rattle.merge.proofs.Pass.{pass_end, passing_long, passing_stale}
 use Rattle.merge.proofs.Advancing.{one_block, task_limits, steepest_at, products, passing_most, may_move_lem, moved_more, passed_on}
-use Rattle.merge.proofs.advance.Reads as reads
-use Rattle.merge.proofs.advance.Lts as lts
-use Rattle.merge.proofs.move_block.Reads as move-block-reads
-use Rattle.steepest.proofs.mend.Reads as mend-reads
-use Rattle.steepest.proofs.top.Reads as top-reads
 use Rattle.merge.proofs.advance.Goals as goal
 
 pub offset_bounds-fall-k : goal.offset_bounds-fall-k

@@ -3,11 +3,6 @@ use Rattle.block.specs.Limits.{most_bits}
 use Rattle.attained.specs.Attained.{block_at}
 use Rattle.merge.specs.Standing.{arrays}
 use Rattle.merge.specs.Passing.{Passing, Turn}
-use Rattle.merge.proofs.advance.Reads as reads
-use Rattle.merge.proofs.advance.Lts as lts
-use Rattle.merge.proofs.move_block.Reads as move-block-reads
-use Rattle.steepest.proofs.mend.Reads as mend-reads
-use Rattle.steepest.proofs.top.Reads as top-reads
 use Rattle.merge.proofs.advance.Given as goal
 
 abbrev pub invariant-loop-fall : goal.invariant-loop-fall

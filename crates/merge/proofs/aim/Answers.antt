@@ -2,8 +2,6 @@
 use mathlib.Core.Path.{refl}
 use native.Mathlib.Omega.{arith}
 use Rattle.merge.proofs.SettingOut.{aimed}
-use Rattle.merge.proofs.aim.Reads as reads
-use Rattle.merge.proofs.aim.Lts as lts
 use Rattle.merge.proofs.aim.Goals as goal
 
 pub returns-then-cb-i : goal.returns-then-cb-i

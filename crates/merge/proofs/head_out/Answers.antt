@@ -3,10 +3,6 @@ use mathlib.Core.Path.{◌∙◌}
 use native.Mathlib.Omega.{arith}
 use Rattle.merge.proofs.SettingOut.{sees_goal, heading_more}
 use Rattle.merge.proofs.Advancing.{one_block}
-use Rattle.merge.proofs.head_out.Reads as reads
-use Rattle.merge.proofs.head_out.Lts as lts
-use Rattle.merge.proofs.aim.Reads as aim-reads
-use Rattle.merge.proofs.set_way.Reads as set-way-reads
 use Rattle.merge.proofs.head_out.Goals as goal
 
 pub set_way-requires : goal.set_way-requires

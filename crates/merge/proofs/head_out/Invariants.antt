@@ -1,10 +1,6 @@
 use Prim.Native.Nat.{◌-◌}
 use Rattle.attained.specs.Attained.{block_at}
 use Rattle.merge.specs.SettingOut.{Heading}
-use Rattle.merge.proofs.head_out.Reads as reads
-use Rattle.merge.proofs.head_out.Lts as lts
-use Rattle.merge.proofs.aim.Reads as aim-reads
-use Rattle.merge.proofs.set_way.Reads as set-way-reads
 use Rattle.merge.proofs.head_out.Given as goal
 
 abbrev pub invariant-loop-i : goal.invariant-loop-i

@@ -2,11 +2,6 @@
 use native.Mathlib.Omega.{arith}
 use Rattle.merge.proofs.SettingOut.{ends_addable, headed_slopes, set_out}
 use Rattle.merge.proofs.Advancing.{task_limits}
-use Rattle.merge.proofs.set_out.Reads as reads
-use Rattle.merge.proofs.set_out.Lts as lts
-use Rattle.merge.proofs.head_out.Reads as head-out-reads
-use Rattle.merge.proofs.together.Reads as together-reads
-use Rattle.steepest.proofs.build.Reads as build-reads
 use Rattle.merge.proofs.set_out.Goals as goal
 
 pub build-requires : goal.build-requires

@@ -1,9 +1,6 @@
 -- `merge::set_way` meets its contract: the three numbers of the way that is found stand in block k's places.
 use mathlib.Core.Path.{refl}
 use native.Mathlib.Omega.{arith}
-use Rattle.merge.proofs.set_way.Reads as reads
-use Rattle.merge.proofs.set_way.Lts as lts
-use Rattle.merge.proofs.way_from.Reads as way-from-reads
 use Rattle.merge.proofs.set_way.Goals as goal
 
 pub way_from-w-requires : goal.way_from-w-requires

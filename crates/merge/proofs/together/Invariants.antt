@@ -1,9 +1,6 @@
 -- `merge::together` meets its contract: each turn adds one block's corner.
 use Prim.Native.Nat.{◌-◌}
 use Rattle.merge.specs.SettingOut.{Adding}
-use Rattle.merge.proofs.together.Reads as reads
-use Rattle.merge.proofs.together.Lts as lts
-use Rattle.merge.proofs.add.Reads as add_reads
 use Rattle.merge.proofs.together.Given as goal
 
 abbrev pub invariant-loop-i : goal.invariant-loop-i

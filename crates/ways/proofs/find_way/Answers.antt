@@ -1,8 +1,6 @@
 -- `ways::find_way` meets its contract: each turn brings a nearer corner, until the top known one is the next.
 -- Assumes nothing.
-use mathlib.Core.Path.{◌∙◌}
-use mathlib.Core.Path.{◌≡◌}
-use native.Mathlib.Omega.{arith}
+use mathlib.Core.Path.{◌≡◌, ◌∙◌}
 use Rattle.block.specs.Block.{Block}
 use Rattle.block.specs.Level.{block_of}
 use Rattle.corners.specs.Pair.{Pair}
