@@ -73,9 +73,9 @@ enum {
    Null pointers: with length 0 a null pointer is an empty buffer, and refused like one (11 for the packet, 5 for keep).
    With a length above 0 a null pointer is the caller's fault, as is a length beyond the buffer's; the call can't notice.
 
-   Stack: at most ANB_STACK_BYTES of the caller's thread, whatever the packet. Some 340,000 bytes were measured (on a painted
-   stack, tests/headend.c), of which the local arrays are 330,568: the unpacked still, and numbers for each block. A thread
-   with a smaller stack must not call it. */
+   Stack: at most ANB_STACK_BYTES of the caller's thread, whatever the packet. Some 385,000 bytes were measured (on a painted
+   stack, tests/headend.c): the unpacked still, and for each block of the largest still its choices and the corners ahead of
+   it. A thread with a smaller stack must not call it. */
 enum { ANB_STACK_BYTES = 384 * 1024 };
 
 uint32_t anb_budget(const uint8_t *packet, size_t packet_len, uint32_t budget, uint8_t *keep, size_t keep_len);

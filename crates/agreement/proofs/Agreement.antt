@@ -5,11 +5,10 @@ use mathlib.Core.Path.{◌≡◌, refl, sym, subst}
 use mathlib.Core.List.{List, [], ◌∷◌, Memᴰ}
 use mathlib.Core.Logic.{◌⊎◌, inl, inr}
 use Prim.Native.Nat.{ℕ, zero, suc, ◌+◌, ◌*◌, ◌<◌}
-use native.Mathlib.Decide.{dec_lt}
 use native.Mathlib.Omega.{arith}
 use lib.ListN.{length, get_or}
 use Rattle.block.specs.Block.{Block}
-use Rattle.price.specs.Price.{Accepted}
+use Rattle.price.specs.Accepted.{Accepted}
 use Rattle.corners.specs.Pair.{Pair}
 use Rattle.corners.specs.Price.{Wins}
 use Rattle.corners.specs.Still.{Attains}
@@ -25,6 +24,7 @@ use Rattle.merge.specs.CornerChoice.{CornerKept}
 use Rattle.settled.proofs.OneChoice.{kept_unique}
 use Rattle.price_job.specs.PriceJob.{Decided}
 use Rattle.list_job.specs.ListJob.{Stored}
+use Rattle.list_job.proofs.Unique.{entry_member}
 use Rattle.agreement.specs.Listed.{InList, PriceOf}
 
 -- where a pair of the list stands
@@ -63,17 +63,6 @@ module _ {B : ℕ → Block} {n a b : ℕ} {P : Pair} {keep : List ℕ} (d : Dec
         pair = q.is;
         keeps = kept_unique (wins_corner h.a_low wins) (subst (λ (X : Pair). CornerKept B n X (get_or after (3 * q.at + 2) 0)) q.is (s.kept q.at q.inside)) keeps;
       }
-
--- an entry is one of the pairs
-entry_member : (out : List ℕ) (m k : ℕ) → k < m → Memᴰ (entry out k) (entries out m)
-entry_member out zero k h = absurd (omega arith)
-entry_member out (suc m) k h =
-    elim (dec_lt k m) [
-      | yes l ↦ mathlib.Core.List.Memᴰ.append_left (entry out m ∷ []) (entry_member out m k l)
-      | no l ↦
-          let e : m ≡ k = omega arith in
-          mathlib.Core.List.Memᴰ.append_right (entries out m) (subst (λ (j : ℕ). Memᴰ (entry out j) (entry out m ∷ [])) e (mathlib.Core.List.Memᴰ.head refl))
-    ]
 
 module _ {B : ℕ → Block} {n : ℕ} {L : List Pair} {before after : List ℕ} (C : CornerList (Attains (λ i. Attained (B i)) n) L) (s : Stored B n L before after) where
   pub given_back : (k : ℕ) → k < length L → PriceOf B n after k

@@ -1,7 +1,7 @@
 -- A point stands in a list: its pair and its number of kept coefficients are an entry; and the price that gives an entry back.
 use Rattle.std.specs.Prelude.{◌≡◌, List, ℕ, ◌+◌, ◌*◌, ◌<◌, get_or}
 use Rattle.block.specs.Block.{Block}
-use Rattle.price.specs.Price.{Accepted}
+use Rattle.price.specs.Accepted.{Accepted}
 use Rattle.corners.specs.Pair.{Pair}
 use Rattle.corners.specs.Listed.{entry}
 use Rattle.kept.specs.Kept.{kept_to}

@@ -1,3 +1,2 @@
-// The price job and the list job agree: a theorem in proofs/ from their promises alone. There is no code here.
-
+//! The price job and the list job agree: a theorem in proofs/ from their promises alone. There is no code here.
 #![tactic(auto)]

@@ -4,18 +4,11 @@ use mathlib.Core.Path.{◌≡◌, refl, sym, ap, ◌∙◌}
 use Prim.Native.Nat.{ℕ}
 use lib.Dec.{eqb}
 use Rattle.block.specs.First.{pick}
+use Rattle.std.specs.Prelude.{Result, Ok, Err}
 use Rattle.answers.specs.declared.Kind as K
 use Rattle.answers.specs.declared.Kind.TheVariants as kind
 use Rattle.answers.specs.declared.Refusal as R
 use Rattle.answers.specs.declared.Point as P
-use Rattle.answers.specs.declared.PointAnswer as PA
-use Rattle.answers.specs.declared.PointAnswer.TheVariants as pointAnswer
-use Rattle.answers.specs.declared.CornersAnswer as CA
-use Rattle.answers.specs.declared.CornersAnswer.TheVariants as cornersAnswer
-use Rattle.answers.specs.declared.KeptAnswer as KA
-use Rattle.answers.specs.declared.KeptAnswer.TheVariants as keptAnswer
-use Rattle.answers.specs.declared.Checked as C
-use Rattle.answers.specs.declared.Checked.TheVariants as checked
 use Rattle.answers.specs.Said.{number_of, said_point, said_corners, said_kept, said_check}
 
 -- a kind by its number
@@ -63,26 +56,24 @@ unfolding point_of
 parts_same p q e f g =
     let m : point_of p.bits.0 p.error.0 p.kept ≡ point_of q.bits.0 q.error.0 q.kept = cc in m
 
-pub point_same : (r s : PA.PointAnswer) → said_point r ≡ said_point s → r ≡ s
-point_same (pointAnswer.Point p) (pointAnswer.Point q) e = ap pointAnswer.Point (parts_same p q (cc) (cc) (cc))
-point_same (pointAnswer.Point p) (pointAnswer.Refused q) e = cc
-point_same (pointAnswer.Refused p) (pointAnswer.Point q) e = cc
-point_same (pointAnswer.Refused p) (pointAnswer.Refused q) e = ap pointAnswer.Refused (refusal_same p q (cc) (cc) (cc))
+pub point_same : (r s : Result P.Point R.Refusal) → said_point r ≡ said_point s → r ≡ s
+point_same (Ok p) (Ok q) e = ap Ok (parts_same p q (cc) (cc) (cc))
+point_same (Ok p) (Err q) e = cc
+point_same (Err p) (Ok q) e = cc
+point_same (Err p) (Err q) e = ap Err (refusal_same p q (cc) (cc) (cc))
 
-pub corners_same : (r s : CA.CornersAnswer) → said_corners r ≡ said_corners s → r ≡ s
-corners_same (cornersAnswer.Corners p) (cornersAnswer.Corners q) e = cc
-corners_same (cornersAnswer.Corners p) (cornersAnswer.Refused q) e = cc
-corners_same (cornersAnswer.Refused p) (cornersAnswer.Corners q) e = cc
-corners_same (cornersAnswer.Refused p) (cornersAnswer.Refused q) e = ap cornersAnswer.Refused (refusal_same p q (cc) (cc) (cc))
+pub corners_same : (r s : Result ℕ R.Refusal) → said_corners r ≡ said_corners s → r ≡ s
+corners_same (Ok p) (Ok q) e = cc
+corners_same (Ok p) (Err q) e = cc
+corners_same (Err p) (Ok q) e = cc
+corners_same (Err p) (Err q) e = ap Err (refusal_same p q (cc) (cc) (cc))
 
-pub kept_same : (r s : KA.KeptAnswer) → said_kept r ≡ said_kept s → r ≡ s
-kept_same (keptAnswer.Kept p) (keptAnswer.Kept q) e = cc
-kept_same (keptAnswer.Kept p) (keptAnswer.Refused q) e = cc
-kept_same (keptAnswer.Refused p) (keptAnswer.Kept q) e = cc
-kept_same (keptAnswer.Refused p) (keptAnswer.Refused q) e = ap keptAnswer.Refused (refusal_same p q (cc) (cc) (cc))
+pub kept_same : (r s : Result ℕ R.Refusal) → said_kept r ≡ said_kept s → r ≡ s
+kept_same (Ok p) (Ok q) e = cc
+kept_same (Ok p) (Err q) e = cc
+kept_same (Err p) (Ok q) e = cc
+kept_same (Err p) (Err q) e = ap Err (refusal_same p q (cc) (cc) (cc))
 
-pub checked_same : (r s : C.Checked) → said_check r ≡ said_check s → r ≡ s
-checked_same checked.Fine checked.Fine e = refl
-checked_same checked.Fine (checked.Refused q) e = cc
-checked_same (checked.Refused p) checked.Fine e = cc
-checked_same (checked.Refused p) (checked.Refused q) e = ap checked.Refused (refusal_same p q (cc) (cc) (cc))
+-- two checks that refuse with the same number and details
+pub refused_same : (r s : R.Refusal) → said_check {A = Unit {0}} (Err r) ≡ said_check {A = Unit {0}} (Err s) → r ≡ s
+refused_same p q e = refusal_same p q (cc) (cc) (cc)

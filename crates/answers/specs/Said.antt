@@ -1,16 +1,9 @@
 -- What an answer says: for each case of each answer the paper's number and values.
-use Rattle.std.specs.Prelude.{Bool, true, false, ℕ}
+use Rattle.std.specs.Prelude.{Bool, true, false, Result, Ok, Err, ℕ}
 use Rattle.answers.specs.declared.Kind as K
 use Rattle.answers.specs.declared.Kind.TheVariants as kind
 use Rattle.answers.specs.declared.Refusal as R
-use Rattle.answers.specs.declared.PointAnswer as PA
-use Rattle.answers.specs.declared.PointAnswer.TheVariants as pointAnswer
-use Rattle.answers.specs.declared.CornersAnswer as CA
-use Rattle.answers.specs.declared.CornersAnswer.TheVariants as cornersAnswer
-use Rattle.answers.specs.declared.KeptAnswer as KA
-use Rattle.answers.specs.declared.KeptAnswer.TheVariants as keptAnswer
-use Rattle.answers.specs.declared.Checked as C
-use Rattle.answers.specs.declared.Checked.TheVariants as checked
+use Rattle.answers.specs.declared.Point as P
 
 -- the number of each kind of refusal
 abbrev pub number_of : K.Kind → ℕ
@@ -36,26 +29,27 @@ pub data Said : Type 0 where
 abbrev pub said_refusal : R.Refusal → Said
 said_refusal r = refused (number_of r.kind) r.first r.second
 
-abbrev pub said_point : PA.PointAnswer → Said
-said_point (pointAnswer.Point p) = point p.bits.0 p.error.0 p.kept
-said_point (pointAnswer.Refused r) = said_refusal r
+abbrev pub said_point : Result P.Point R.Refusal → Said
+said_point (Ok p) = point p.bits.0 p.error.0 p.kept
+said_point (Err r) = said_refusal r
 
-abbrev pub said_corners : CA.CornersAnswer → Said
-said_corners (cornersAnswer.Corners n) = corners n
-said_corners (cornersAnswer.Refused r) = said_refusal r
+abbrev pub said_corners : Result ℕ R.Refusal → Said
+said_corners (Ok n) = corners n
+said_corners (Err r) = said_refusal r
 
-abbrev pub said_kept : KA.KeptAnswer → Said
-said_kept (keptAnswer.Kept n) = kept n
-said_kept (keptAnswer.Refused r) = said_refusal r
+abbrev pub said_kept : Result ℕ R.Refusal → Said
+said_kept (Ok n) = kept n
+said_kept (Err r) = said_refusal r
 
 -- what a check says: nothing to refuse, or the number of the refusal and its two details
 pub data Verdict : Type 0 where
   fine : Verdict
   refuse : (number first second : ℕ) → Verdict
 
-abbrev pub said_check : C.Checked → Verdict
-said_check checked.Fine = fine
-said_check (checked.Refused r) = refuse (number_of r.kind) r.first r.second
+-- of a check that answers something else where it refuses nothing, too
+abbrev pub said_check : {A : Type 0} → Result A R.Refusal → Verdict
+said_check (Ok a) = fine
+said_check (Err r) = refuse (number_of r.kind) r.first r.second
 
 -- the first of two verdicts that refuses
 infixl 5 ◌then◌

@@ -1,2 +1,3 @@
 pub mod Winning
 pub mod Uncodable
+pub mod Chosen

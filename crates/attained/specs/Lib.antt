@@ -1,2 +1,3 @@
 pub mod Attained
 pub mod Uncodable
+pub mod Chosen

@@ -1,2 +1,4 @@
-pub mod Reaching
 pub mod Unique
+pub mod Winning
+pub mod Setting
+pub mod Fitting

@@ -7,18 +7,20 @@ use native.Mathlib.Omega.{arith}
 use lib.IntN.{ℤ}
 use lib.ListN.{length}
 use lib.Seq.{ext_get_or}
+use Rattle.std.specs.Prelude.{Result}
 use Rattle.block.specs.Block.{Block}
 use Rattle.corners.proofs.Unique.{fits_unique, least_bits_unique}
 use Rattle.corners.proofs.Dearest.{fits_least}
 use Rattle.attained.proofs.Uncodable.{uncodable_unique}
-use Rattle.answers.specs.declared.PointAnswer.{PointAnswer}
+use Rattle.answers.specs.declared.Point.{Point}
+use Rattle.answers.specs.declared.Refusal.{Refusal}
 use Rattle.answers.proofs.Same.{point_same}
 use Rattle.still.proofs.Fine.{budget_verdict_fine}
 use Rattle.settled.proofs.OneChoice.{choice_attains, choice_unique, attained_codable}
 use Rattle.budget_job.specs.BudgetJob.{Fitted, uncodable, passes, fits, BudgetMeets, refuses, answers}
 
 module _ {B : ℕ → Block} {n : ℕ} where
-  fitted_unique : {budget : ℕ} {before x y : List ℕ} {r s : PointAnswer} → length before ≡ n
+  fitted_unique : {budget : ℕ} {before x y : List ℕ} {r s : Result Point Refusal} → length before ≡ n
       → Fitted B n budget before r x → Fitted B n budget before s y → (r ≡ s) × (x ≡ y)
   fitted_unique {r = r} {s = s} l (uncodable i u p q) (uncodable j v o k) = let e = uncodable_unique u v in (point_same r s (cc), cc)
   fitted_unique l (uncodable i u p q) (passes m v h o k) = absurd (attained_codable v.attained u)
@@ -33,7 +35,7 @@ module _ {B : ℕ → Block} {n : ℕ} where
       let z : x ≡ y = ext_get_or 0 x y (m ∙ sym k) (λ i h. choice_unique f.corner c (rw (sym e) at d) i (omega arith)) in
       (point_same r s (cc), z)
 
-pub unique : {levels : List ℤ} {steps lengths : List ℕ} {budget : ℕ} {before x y : List ℕ} {r s : PointAnswer}
+pub unique : {levels : List ℤ} {steps lengths : List ℕ} {budget : ℕ} {before x y : List ℕ} {r s : Result Point Refusal}
     → BudgetMeets levels steps lengths budget before r x → BudgetMeets levels steps lengths budget before s y → (r ≡ s) × (x ≡ y)
 unique {r = r} {s = s} (refuses n d e v p q) (refuses m f g w o k) = (point_same r s (cc), cc)
 unique {r = r} {s = s} (refuses n d e v p q) (answers w t) = (point_same r s (cc), cc)

@@ -1,116 +1,112 @@
-// What is printed behind a case: the answer, and what was lent, afterwards.
-use answers::{CornersAnswer, KeptAnswer, PointAnswer, Refusal};
-use std::io;
+//! What is printed behind a case: the answer, and what was lent, afterwards.
+use answers::{Point, Refusal};
+use std::{fmt, io};
 
 // As many numbers are told one by one.
 const SHORT: usize = 24;
 
-fn text(rt: &impl Print, s: &[u8]) -> io::Result<()> {
-    rt.write_all(s)
+/// A point, and the keep slice.
+pub fn point(rt: &impl Print, said: Result<Point, Refusal>, keep: &[u64]) -> io::Result<()> {
+    match said {
+        Ok(p) => print!(rt; ": point {} {} {}", p.bits.0, p.error.0, p.kept)?,
+        Err(refusal) => refused(rt, refusal)?,
+    }
+    let kept = Stored::whole(keep);
+    print!(rt; ", keep{kept}")
 }
 
-pub fn echo(rt: &impl Print, c: u8) -> io::Result<()> {
-    text(rt, &[c])
+/// A number of corners, and the list.
+pub fn corners(rt: &impl Print, said: Result<usize, Refusal>, list: &[u64]) -> io::Result<()> {
+    match said {
+        Ok(n) => print!(rt; ": corners {n}")?,
+        Err(refusal) => refused(rt, refusal)?,
+    }
+    let listed = Stored {
+        places: list,
+        end: said.map_or(0, |n| 3 * (n % 65536)),
+    };
+    print!(rt; ", list{listed}")
 }
 
-fn number(rt: &impl Print, x: u64) -> io::Result<()> {
-    print!(rt; " {x}")
-}
-
-// The first ones, `most` at most.
-fn numbers(rt: &impl Print, xs: &[u64], most: usize) -> io::Result<()> {
-    for i in 0..most {
-        if i < xs.len() {
-            number(rt, xs[i])?;
+/// A number of kept coefficients, the keep slice and the levels.
+pub fn kept(
+    rt: &impl Print,
+    said: Result<u64, Refusal>,
+    keep: &[u64],
+    levels: &[i16],
+) -> io::Result<()> {
+    match said {
+        Ok(n) => print!(rt; ": kept {n}")?,
+        Err(refusal) => refused(rt, refusal)?,
+    }
+    let kept = Stored::whole(keep);
+    print!(rt; ", keep{kept}, levels")?;
+    for (i, level) in levels.iter().enumerate() {
+        if *level != 0 {
+            print!(rt; " {}/{}={level}", i / 64, i % 64)?;
         }
     }
     Ok(())
 }
 
-// A number that each place and the order of the places count for.
-fn sum(xs: &[u64]) -> u64 {
-    let mut sum = 0;
-    for i in 0..xs.len() {
-        sum = (31 * sum + xs[i] % 1000000007) % 1000000007;
+fn refused(rt: &impl Print, refusal: Refusal) -> io::Result<()> {
+    print!(rt;
+        ": refused {} {} {}",
+        refusal.kind.number(),
+        refusal.first,
+        refusal.second
+    )
+}
+
+// Numbers, each behind a blank.
+#[derive(Clone, Copy)]
+struct Numbers<'a>(&'a [u64]);
+
+impl fmt::Display for Numbers<'_> {
+    fn fmt<W: fmt::Write>(&self, f: &mut fmt::Formatter<W>) -> fmt::Result {
+        for number in self.0 {
+            write!(f, " {number}")?;
+        }
+        Ok(())
     }
-    sum
 }
 
 // All of a short slice. Of a longer one the first six numbers; three before and three behind the end of what is stored;
 // the sum.
-fn slice(rt: &impl Print, name: &[u8], xs: &[u64], end: usize) -> io::Result<()> {
-    text(rt, name)?;
-    if xs.len() <= SHORT {
-        return numbers(rt, xs, SHORT);
-    }
-    numbers(rt, xs, 6)?;
-    echo(rt, b';')?;
-    let from = if end < 3 { 0 } else { end - 3 };
-    if from <= xs.len() {
-        numbers(rt, &xs[from..], 6)?;
-    }
-    echo(rt, b';')?;
-    number(rt, sum(xs))
+#[derive(Clone, Copy)]
+struct Stored<'a> {
+    places: &'a [u64],
+    end: usize,
 }
 
-// Block, position and value.
-fn level(rt: &impl Print, i: usize, v: i16) -> io::Result<()> {
-    print!(rt; " {}/{}={v}", i / 64, i % 64)
-}
-
-fn nonzero(rt: &impl Print, levels: &[i16]) -> io::Result<()> {
-    text(rt, b", levels")?;
-    for i in 0..levels.len() {
-        let v = levels[i];
-        if v != 0 {
-            level(rt, i, v)?;
+impl Stored<'_> {
+    fn whole(places: &[u64]) -> Stored<'_> {
+        Stored {
+            places,
+            end: places.len(),
         }
     }
-    Ok(())
 }
 
-fn refusal(rt: &impl Print, r: Refusal) -> io::Result<()> {
-    let kind = r.kind;
-    text(rt, b": refused")?;
-    number(rt, answers::number(kind))?;
-    number(rt, r.first)?;
-    number(rt, r.second)
-}
-
-pub fn point(rt: &impl Print, r: PointAnswer, keep: &[u64]) -> io::Result<()> {
-    match r {
-        PointAnswer::Point(p) => {
-            text(rt, b": point")?;
-            number(rt, p.bits.0)?;
-            number(rt, p.error.0)?;
-            number(rt, p.kept)?;
+impl fmt::Display for Stored<'_> {
+    fn fmt<W: fmt::Write>(&self, f: &mut fmt::Formatter<W>) -> fmt::Result {
+        let places = self.places;
+        if places.len() <= SHORT {
+            return write!(f, "{}", Numbers(places));
         }
-        PointAnswer::Refused(r) => refusal(rt, r)?,
+        let from = self.end.saturating_sub(3).min(places.len());
+        let to = places.len().min(from + 6);
+        let first = Numbers(&places[..6]);
+        let around = Numbers(&places[from..to]);
+        write!(f, "{first};{around}; {}", sum(places))
     }
-    slice(rt, b", keep", keep, keep.len())
 }
 
-pub fn corners(rt: &impl Print, r: CornersAnswer, list: &[u64]) -> io::Result<()> {
-    let mut end = 0;
-    match r {
-        CornersAnswer::Corners(n) => {
-            text(rt, b": corners")?;
-            number(rt, n)?;
-            end = 3 * ((n % 65536) as usize);
-        }
-        CornersAnswer::Refused(r) => refusal(rt, r)?,
+// A number that each place and the order of the places count for.
+fn sum(places: &[u64]) -> u64 {
+    let mut sum = 0;
+    for x in places {
+        sum = (31 * sum + x % 1000000007) % 1000000007;
     }
-    slice(rt, b", list", list, end)
-}
-
-pub fn kept(rt: &impl Print, r: KeptAnswer, keep: &[u64], levels: &[i16]) -> io::Result<()> {
-    match r {
-        KeptAnswer::Kept(n) => {
-            text(rt, b": kept")?;
-            number(rt, n)?;
-        }
-        KeptAnswer::Refused(r) => refusal(rt, r)?,
-    }
-    slice(rt, b", keep", keep, keep.len())?;
-    nonzero(rt, levels)
+    sum
 }

@@ -3,7 +3,7 @@
 use mathlib.Core.List.{List, Memᴰ}
 use Prim.Native.Nat.{ℕ}
 use Rattle.corners.specs.Pair.{Pair}
-use Rattle.price.specs.Price.{Accepted}
+use Rattle.price.specs.Accepted.{Accepted}
 use Rattle.corners.specs.Price.{Wins}
 use Rattle.corners.specs.Listed.{CornerList}
 use Rattle.corners.proofs.Winner.{wins_corner}

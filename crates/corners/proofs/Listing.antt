@@ -8,7 +8,7 @@ use Prim.Native.Nat.{ℕ, ◌*◌, ◌≤◌, ◌<◌}
 use native.Mathlib.Omega.{arith}
 use native.Mathlib.Decide.{dec_le}
 use Rattle.corners.specs.Pair.{Pair}
-use Rattle.price.specs.Price.{Accepted}
+use Rattle.price.specs.Accepted.{Accepted}
 use Rattle.corners.specs.Price.{Least}
 use Rattle.corners.specs.Corner.{Corner}
 use Rattle.corners.specs.Listed.{Rising, Given, CornerList}

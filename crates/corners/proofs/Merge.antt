@@ -6,7 +6,7 @@ use Prim.Native.Nat.{ℕ, ◌*◌, ◌≤◌, ◌<◌}
 use native.Mathlib.Omega.{arith}
 use native.Mathlib.Decide.{dec_le}
 use Rattle.corners.specs.Pair.{Pair}
-use Rattle.price.specs.Price.{Accepted}
+use Rattle.price.specs.Accepted.{Accepted}
 use Rattle.corners.specs.Price.{Least, Wins}
 use Rattle.corners.specs.Still.{total, Attains}
 use Rattle.corners.specs.Listed.{CornerList}

@@ -2,7 +2,7 @@
 use mathlib.Core.List.{List, [], ◌∷◌, ◌++◌, Memᴰ}
 use Rattle.std.specs.Prelude.{get_or, ℕ, zero, suc, ◌+◌, ◌*◌, ◌<◌}
 use Rattle.corners.specs.Pair.{Pair}
-use Rattle.price.specs.Price.{Accepted}
+use Rattle.price.specs.Accepted.{Accepted}
 use Rattle.corners.specs.Price.{Wins}
 use Rattle.corners.specs.Corner.{Corner}
 

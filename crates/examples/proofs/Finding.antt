@@ -6,7 +6,7 @@ use Prim.Native.Nat.{ℕ, zero, suc, ◌*◌, ◌-◌}
 use lib.Dec.{ltb, eqb}
 use lib.ListN.{length}
 use Rattle.block.specs.First.{pick}
-use Rattle.price.specs.Price.{most_on_bits}
+use Rattle.price.specs.Accepted.{most_on_bits}
 use Rattle.corners.specs.Pair.{Pair}
 use Rattle.examples.specs.Example.{pair}
 use Rattle.examples.proofs.Truth.{both, either}

@@ -9,7 +9,7 @@ use native.Mathlib.Omega.{arith}
 use borrow.Author.Tests.{ltb-true, leb-true, eqb-true, eq-eqb, le-leb, not-true}
 use lib.Dec.{ltb, leb, eqb}
 use Rattle.block.specs.Block.{Block}
-use Rattle.price.specs.Price.{Accepted, most_on_error, most_on_bits}
+use Rattle.price.specs.Accepted.{Accepted, most_on_error, most_on_bits}
 use Rattle.corners.specs.Pair.{Pair, cost}
 use Rattle.corners.specs.Price.{Least}
 use Rattle.corners.specs.Corner.{Corner}

@@ -1,111 +1,91 @@
 -- The walk stops where the next corner passes the budget, and goes on to it where it fits.
 -- Assumes nothing.
-use mathlib.Core.Path.{◌≡◌, refl, ap, sym, subst}
-use mathlib.Core.List.{List}
-use Prim.Native.Nat.{ℕ, zero, suc, ◌+◌, ◌*◌, ◌≤◌, ◌<◌}
-use native.Mathlib.Decide.{ℕ_discrete}
-use native.Mathlib.Omega.{arith}
-use borrow.Author.Tests.{eq-eqb}
-use lib.ListN.{get_or}
-use Rattle.block.specs.Block.{Block}
-use Rattle.block.specs.Limits.{most_bits, most_error}
+use Rattle.std.proofs.Common.{◌≡◌, refl, ap, ◌∙◌, ℕ, ◌+◌, ◌*◌, ◌≤◌, ◌<◌, List, length, take, slice_index_or, arith}
+use Rattle.std.proofs.lemmas.List.{get_or-take, length-take-le}
 use Rattle.corners.specs.Pair.{Pair}
+use Rattle.corners.specs.Still.{total}
 use Rattle.corners.specs.Merging.{onward, growth}
 use Rattle.corners.proofs.Sums.{total_same}
 use Rattle.corners.proofs.Merge.{merge_steep}
 use Rattle.corners.proofs.Passing.{onward_bits, passing_fits}
 use Rattle.attained.specs.Attained.{Attained}
-use Rattle.answers.specs.declared.Point.{Point}
-use Rattle.steepest.specs.Slope.{Slope, Top}
-use Rattle.steepest.proofs.Root.{root_top}
-use Rattle.merge.specs.Standing.{Arrays, at, corner_at, Stationed}
+use Rattle.still.specs.Blocks.{count_of, block_in}
+use Rattle.steepest.specs.declared.way.Way.{Way}
+use Rattle.merge.specs.declared.Course.{Course}
+use Rattle.merge.specs.Standing.{no_way, at, corner_at, top_of, steepest_of}
 use Rattle.merge.specs.Passing.{Leaving, Advanced}
 use Rattle.merge.proofs.Station.{course}
-use Rattle.fitting.specs.Fitting.{Walks, FitsThere}
+use Rattle.merge.proofs.Played.{top_within, flat}
+use Rattle.merge.proofs.Totals.{together_bits}
+use Rattle.fitting.specs.Fitting.{grown_by, Walks, FitsThere}
+use Rattle.fitting.proofs.Growth.{growth_part, growth_same}
 
--- A block that is parallel is part of the growth.
-growth_part : (a b : ℕ) (c d : ℕ → ℕ) (n k : ℕ) → k < n → d k * a ≡ b * c k → c k ≤ growth a b c d n
-growth_part a b c d zero k l e = absurd (omega arith)
-growth_part a b c d (suc n) k l e = go (ℕ_discrete k n) (growth_part a b c d n k)
-  where
-    go : Dec (k ≡ n) → (k < n → d k * a ≡ b * c k → c k ≤ growth a b c d n) → c k ≤ growth a b c d (suc n)
-    go (yes q) r = rw (← q, eq-eqb (d k * a) (b * c k) e) (omega arith)
-    go (no u) r = omega (arith, r (omega arith) e)
+module _ {c : Course} {budget : ℕ} (W : Walks c budget) where
+  abbrev n : ℕ
+  n = count_of c.search.still
 
-module _ {B : ℕ → Block} {n low budget : ℕ} {S : Arrays} {tree : List ℕ} {p : Point} (W : Walks B n low budget S tree p)
-    (k r f : ℕ) (root : k ≡ get_or tree 1 0) (r-is : r ≡ get_or S.run k 0) (f-is : f ≡ get_or S.fall k 0) where
-  top : Top S.run S.fall n k
-  top = subst (Top S.run S.fall n) (sym root) (root_top W.standing.tournament)
+  abbrev r : ℕ
+  r = (steepest_of c).run
 
-  pub walk_small : (k < n) × (r ≤ most_bits) × (f ≤ most_error)
-  walk_small =
-      let s = W.standing.tournament.slopes.each k top.within in
-      (top.within, omega (arith, r-is, s.run_high), omega (arith, f-is, s.fall_high))
+  abbrev f : ℕ
+  f = (steepest_of c).fall
 
-  -- no block's way is steeper
-  flat : (i : ℕ) → i < n → get_or S.fall i 0 * r ≤ f * get_or S.run i 0
-  flat i l = rw (r-is, f-is) (top.steepest i l)
+  -- the bits by which the still grows
+  abbrev grown : ℕ
+  grown = growth r f (λ i. (at c i).way.run) (λ i. (at c i).way.fall) n
 
-  each : (i : ℕ) → i < n → Stationed (B i) low (W.standing.goal i) W.a W.b (at S i)
-  each = W.standing.each
+  above : r * c.low < f
+  above = merge_steep (λ i. Attained (block_in c.search.still i)) n (corner_at c) (λ i. (at c i).way.run) (λ i. (at c i).way.fall) (λ i l. (W.standing.each i l).stands)
+      r f (steepest_of c).some_run (flat W.standing.played) W.standing.above W.wins (omega (arith, W.standing.together.bits, W.within, W.beyond))
 
-  positive : 1 ≤ r
-  positive = omega (arith, r-is, (W.standing.tournament.slopes.each k top.within).run_low)
+  pub walk_leaves : Leaving c
+  walk_leaves = record { a = W.a; b = W.b; standing = W.standing; above = above }
 
-  above : r * low < f
-  above = merge_steep (λ i. Attained (B i)) n (corner_at S) (λ i. get_or S.run i 0) (λ i. get_or S.fall i 0) (λ i l. (each i l).stands)
-      r f positive flat W.standing.above W.wins (omega (arith, W.sums.bits, W.within, W.beyond))
+  many : length (take n c.ways) ≡ n
+  many = length-take-le n c.ways W.standing.played.within
 
-  pub walk_leaves : Leaving B n low r f S tree
-  walk_leaves = record {
-    a = W.a;
-    b = W.b;
-    standing = W.standing;
-    run_is = rw root at r-is;
-    fall_is = rw root at f-is;
-    above = above;
-  }
+  pub walk_grows : {along : Way} {ways : List Way} {m : ℕ} → along ≡ steepest_of c → ways ≡ take n c.ways → m ≡ grown_by along ways (length ways) → m ≡ grown
+  walk_grows p q h = h ∙ rw (p, q, many) (growth_same r f (λ i. (at c i).way.run) (λ i. (at c i).way.fall)
+      (λ i. (slice_index_or (take n c.ways) i no_way).run) (λ i. (slice_index_or (take n c.ways) i no_way).fall) n
+      (λ i l. let e = get_or-take n c.ways i no_way l in (ap (λ (w : Way). w.run) e, ap (λ (w : Way). w.fall) e)))
 
-  grown : ℕ
-  grown = growth r f (λ i. get_or S.run i 0) (λ i. get_or S.fall i 0) n
+  pub walk_most : c.point.bits.0 ≤ 1677312
+  walk_most = omega (arith, together_bits W.standing.together (λ i l. (W.standing.each i l).keep), c.search.still.sound.still.most)
 
-  pub walk_stops : budget < p.bits.0 + growth r f (λ i. get_or S.run i 0) (λ i. get_or S.fall i 0) n → FitsThere B n budget S.cb S.ce S.ck p
+  pub walk_stops : budget < c.point.bits.0 + grown → FitsThere c budget
   walk_stops h = record {
-    fits = passing_fits (λ i. Attained (B i)) n W.standing.goal (corner_at S) (λ i. get_or S.run i 0) (λ i. get_or S.fall i 0) r f budget
-        (λ i l. (each i l).stands) (λ i l. course (each i l).heads) flat above
-        (rw (r-is, f-is) (each k top.within).stands.flatter)
-        (omega (arith, W.sums.bits, W.within)) (omega (arith, W.sums.bits, h));
-    smallest = λ i l. (each i l).keep;
-    sums = W.sums;
+    fits = passing_fits (λ i. Attained (block_in c.search.still i)) n W.standing.goal (corner_at c) (λ i. (at c i).way.run) (λ i. (at c i).way.fall) r f budget
+        (λ i l. (W.standing.each i l).stands) (λ i l. course (W.standing.each i l).heads) (flat W.standing.played) above
+        (W.standing.each (top_of c) (top_within W.standing.played)).stands.flatter
+        (omega (arith, W.standing.together.bits, W.within)) (omega (arith, W.standing.together.bits, h));
+    smallest = λ i l. (W.standing.each i l).keep;
+    together = W.standing.together;
   }
 
-  module _ {S' : Arrays} {tree' : List ℕ} {p' : Point} (A : Advanced B n low r f S S' tree' p') where
-    gone : p'.bits.0 ≡ p.bits.0 + growth r f (λ i. get_or S.run i 0) (λ i. get_or S.fall i 0) n
+  module _ {c' : Course} (A : Advanced c c') where
+    gone : c'.point.bits.0 ≡ c.point.bits.0 + grown
     gone =
-        let e = total_same (corner_at S') (λ i. onward r f (corner_at S i) (at S i).run (at S i).fall) n A.onward in
-        let g = onward_bits r f (corner_at S) (λ i. get_or S.run i 0) (λ i. get_or S.fall i 0) n in
-        omega (arith, A.sums.bits, W.sums.bits, ap (λ (P : Pair). P.bits) e, g)
+        let e = total_same (corner_at c') (λ i. onward r f (corner_at c i) (at c i).way.run (at c i).way.fall) n A.onward in
+        let g = onward_bits r f (corner_at c) (λ i. (at c i).way.run) (λ i. (at c i).way.fall) n in
+        omega (
+          arith,
+          A.standing.together.bits,
+          ap (λ (m : ℕ). (total (corner_at c') m).bits) (ap count_of A.same.still),
+          W.standing.together.bits,
+          ap (λ (P : Pair). P.bits) e,
+          g,
+        )
 
-    pub walk_more : p.bits.0 < p'.bits.0
-    walk_more =
-        let q : get_or S.fall k 0 * r ≡ f * get_or S.run k 0 = rw (r-is, f-is) refl in
-        omega (arith, gone, positive, r-is, growth_part r f (λ i. get_or S.run i 0) (λ i. get_or S.fall i 0) n k top.within q)
+    pub walk_more : c.point.bits.0 < c'.point.bits.0
+    walk_more = omega (arith, gone, (steepest_of c).some_run, growth_part r f (λ i. (at c i).way.run) (λ i. (at c i).way.fall) n (top_of c) (top_within W.standing.played) refl)
 
-    pub walk_on : p.bits.0 + growth r f (λ i. get_or S.run i 0) (λ i. get_or S.fall i 0) n ≤ budget → Walks B n low budget S' tree' p'
+    pub walk_on : c.point.bits.0 + grown ≤ budget → Walks c' budget
     walk_on h = record {
       a = r;
       b = f;
       standing = A.standing;
-      sums = A.sums;
       goal = W.goal;
-      wins = W.wins;
+      wins = simp (A.same.still, A.same.low) W.wins;
       beyond = W.beyond;
       within = omega (arith, gone, h);
     }
-
--- The steepest block's way is there to be read.
-pub walk_slope : {B : ℕ → Block} {n low budget : ℕ} {S : Arrays} {tree : List ℕ} {p : Point} → Walks B n low budget S tree p
-    → {k : ℕ} → k ≡ get_or tree 1 0 → Slope S.run S.fall k
-walk_slope {n = n} {S = S} {tree = tree} W {k} e =
-    let t : Top S.run S.fall n (get_or tree 1 0) = root_top W.standing.tournament in
-    W.standing.tournament.slopes.each k (rw e t.within)

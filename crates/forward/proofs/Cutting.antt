@@ -1,5 +1,4 @@
 -- The last levels that can't pay for the least bits of a level are in no best choice.
--- Assumes nothing.
 use mathlib.Core.Path.{◌≡◌, refl, sym, subst, ap, ◌∙◌}
 use mathlib.Core.List.{List, [], ◌∷◌}
 use Prim.Native.Nat.{ℕ, ◌+◌, ◌-◌, ◌*◌, ◌≤◌, ◌<◌}
@@ -15,11 +14,15 @@ use Rattle.block.specs.Choice.{Choice, Codable, CodableChoice, bits, error}
 use Rattle.block.specs.Limits.{Limits}
 use Rattle.price.specs.Best.{Way, way, cost, Before, Before.cheaper, Before.shorter, Before.smaller, Best}
 use Rattle.forward.specs.declared.Chosen.{Chosen}
-use Rattle.forward.specs.declared.Decision.{Decision}
+use Rattle.std.specs.Prelude.{Option}
 use Rattle.forward.specs.Decision.{OfBest, Decides}
-use Rattle.forward.specs.Given.{LEAST, Met, Entry, Entry.some as t_some, Entry.none as t-none, Gathers, Given, Job, Decided}
+use Rattle.forward.specs.declared.level.Gathered.{Gathered}
+use Rattle.forward.specs.declared.table.Table.{Table}
+use Rattle.forward.specs.declared.table.TheConstants.{LEAST}
+use Rattle.forward.specs.Bits.{Entry, Entry.some as t_some, Entry.none as t-none}
+use Rattle.forward.specs.Given.{level_at, cut, Met, Gathers, Given, Job, Decided}
 use Rattle.forward.specs.Chain.{top, Chain, Coded, sum, miss, stem}
-use Rattle.forward.specs.Scanning.{Cuttable, Cut}
+use Rattle.forward.specs.Cutting.{Cut}
 use Rattle.forward.proofs.Chain.{onto, choice_onto, codable_onto, Turned, turned, end_bits, way_onto, miss_more}
 use Rattle.forward.proofs.Node.{index_under}
 
@@ -91,22 +94,25 @@ module _ (B : Block) (k : ℕ) where
         len_most = l.len_most;
       }
 
-module _ (B : Block) (a b m total : ℕ) (place sizes errors table : List ℕ) (G : Given B m total place sizes errors table) (r : ℕ) (C : Cut a (b * get_or table LEAST 0) m place errors r) where
+module _ (B : Block) (a b : ℕ) (table : Table) (block : Gathered) (G : Given B table block) (r : ℕ) (C : Cut a (b * get_or table.bits LEAST 0) block r) where
   abbrev k : ℕ
-  k = get_or place r 0
+  k = (level_at block.levels r).place
+
+  abbrev place : ℕ → ℕ
+  place i = (level_at block.levels i).place
 
   abbrev F : Block
   F = front B k
 
-  upto : (i : ℕ) → i ≤ r → get_or place i 0 ≤ k
+  upto : (i : ℕ) → i ≤ r → (level_at block.levels i).place ≤ k
   upto i h =
       elim (dec_lt i r) [
         | yes g ↦ omega (arith, G.gathered.rises i r g C.most)
-        | no g ↦ let e : i ≡ r = omega arith in omega (arith, ap (λ (x : ℕ). get_or place x 0) e)
+        | no g ↦ let e : i ≡ r = omega arith in omega (arith, ap (λ (x : ℕ). (level_at block.levels x).place) e)
       ]
 
   -- what is left is given like a block of its own
-  pub front_given : Given F r total place sizes errors table
+  pub front_given : Given F table (cut block r)
   front_given =
       record {
         limits = limits_front B k G.limits;
@@ -114,24 +120,21 @@ module _ (B : Block) (a b m total : ℕ) (place sizes errors table : List ℕ) (
         table = G.table;
         gathered = record {
           most = omega (arith, C.most, g.most);
-          place_long = g.place_long;
-          sizes_long = g.sizes_long;
-          errors_long = g.errors_long;
           start = g.start;
           rises = λ i j h l. g.rises i j h (omega (arith, C.most));
           under = λ i h. g.under i (omega (arith, C.most));
-          sized = λ i h l. omega (arith, size_front B k (get_or place i 0) (upto i l), g.sized i h (omega (arith, C.most)));
-          size_is = λ i h l. g.size_is i h (omega (arith, C.most)) ∙ sym (size_front B k (get_or place i 0) (upto i l));
+          sized = λ i h l. omega (arith, size_front B k (level_at block.levels i).place (upto i l), g.sized i h (omega (arith, C.most)));
+          size_is = λ i h l. g.size_is i h (omega (arith, C.most)) ∙ sym (size_front B k (level_at block.levels i).place (upto i l));
           error_is = λ i h l. g.error_is i h (omega (arith, C.most));
           every = λ x h l s. met x (g.every x h l (omega (arith, s, front_size B k x s))) (front_most B k x s);
           total_is = g.total_is;
         };
       }
     where
-      g : Gathers B.size B.drops m total place sizes errors
+      g : Gathers B.size B.drops block
       g = G.gathered
 
-      met : (x : ℕ) → Met place m x → x ≤ k → Met place r x
+      met : (x : ℕ) → Met block x → x ≤ k → Met (cut block r) x
       met x t h =
           record {
             at = t.at;
@@ -153,14 +156,14 @@ module _ (B : Block) (a b m total : ℕ) (place sizes errors table : List ℕ) (
   shorter_by : (x : ℕ) (o : List ℕ) → k < x → Chain B (x ∷ o) → Coded B (x ∷ o) → Before a b (stem B o (end_bits B (top o))) (stem B (x ∷ o) (end_bits B x))
   shorter_by x o h p q = order
     where
-      t : Met place m x
+      t : Met block x
       t = G.gathered.every x (omega (arith, p.0)) p.1 p.2
 
-      cut : r < t.at
-      cut = index_under place m G.gathered.rises t.at r C.most (omega (arith, t.is))
+      behind : r < t.at
+      behind = index_under place block.count G.gathered.rises t.at r C.most (omega (arith, t.is))
 
       inside : x < 63
-      inside = elim (dec_lt x 63) [ yes g ↦ g | no g ↦ absurd (C.inside t.at cut t.high (omega (arith, t.is, p.1))) ]
+      inside = elim (dec_lt x 63) [ yes g ↦ g | no g ↦ absurd (C.inside t.at behind t.high (omega (arith, t.is, p.1))) ]
 
       ends : (y : ℕ) → y < 63 → end_bits B y ≡ B.len 0
       ends y g = simp (ne_eqb y 63 (λ e. omega arith))
@@ -168,18 +171,18 @@ module _ (B : Block) (a b m total : ℕ) (place sizes errors table : List ℕ) (
       n : ℕ
       n = level_bits B.len (x - top o - 1) (B.size x)
 
-      in_table : Entry (LevelCode B.len (x - top o - 1) (B.size x)) n (get_or table (B.size x * 64 + (x - top o - 1)) 0) → get_or table LEAST 0 ≤ n
+      in_table : Entry (LevelCode B.len (x - top o - 1) (B.size x)) n (get_or table.bits (B.size x * 64 + (x - top o - 1)) 0) → get_or table.bits LEAST 0 ≤ n
       in_table (t_some u v) = omega (arith, v, G.table.least (B.size x) (x - top o - 1) p.2 (G.limits.size_most x) (omega (arith, p.1)))
       in_table (t-none u v) = absurd (u q.0)
 
-      least : get_or table LEAST 0 ≤ n
+      least : get_or table.bits LEAST 0 ≤ n
       least = in_table (G.table.levels (B.size x) (x - top o - 1) p.2 (G.limits.size_most x) (omega (arith, p.1)))
 
       poor : a * B.drops x ≤ b * n
       poor =
           omega (
             arith,
-            C.poor t.at cut t.high,
+            C.poor t.at behind t.high,
             ap (λ (z : ℕ). a * z) (G.gathered.error_is t.at t.low t.high ∙ ap B.drops t.is),
             mul-le-mul_left b least,
           )
@@ -218,10 +221,10 @@ module _ (B : Block) (a b m total : ℕ) (place sizes errors table : List ℕ) (
     where
       short : k < x → x < 63
       short h =
-          let t : Met place m x = G.gathered.every x (omega (arith, p.0)) p.1 p.2 in
+          let t : Met block x = G.gathered.every x (omega (arith, p.0)) p.1 p.2 in
           elim (dec_lt x 63) [
             | yes g ↦ g
-            | no g ↦ absurd (C.inside t.at (index_under place m G.gathered.rises t.at r C.most (omega (arith, t.is))) t.high (omega (arith, t.is, p.1)))
+            | no g ↦ absurd (C.inside t.at (index_under place block.count G.gathered.rises t.at r C.most (omega (arith, t.is))) t.high (omega (arith, t.is, p.1)))
           ]
 
       further : k < x → Left o → Left (x ∷ o)
@@ -267,41 +270,14 @@ module _ (B : Block) (a b m total : ℕ) (place sizes errors table : List ℕ) (
       let s : Same B k 0 h.choice = same B k 0 h.choice h.best.allowed.choice in
       record { choice = h.choice; best = best_of h.choice h.best; bits_is = h.bits_is ∙ s.bits_same; error_is = h.error_is ∙ s.error_same; keep_is = h.keep_is }
 
-  pub decides : {d : Decision} → Decides F a b d → Decides B a b d
+  pub decides : {d : Option Chosen} → Decides F a b d → Decides B a b d
   decides D = record { best = λ p e. of_best p (D.best p e); nothing = λ e o h. D.nothing e (better o h).it (better o h).codable }
 
--- cutting, one level after the other
-module _ {a least m : ℕ} {place errors : List ℕ} where
-  pub cut_start : Cut a least m place errors m
-  cut_start = record { most = omega arith; inside = λ i h l. absurd (omega arith); poor = λ i h l. absurd (omega arith) }
-
-  pub cut_next : {k : ℕ} → 0 < k → Cut a least m place errors k → (get_or place k 0 ≡ 63 → ⊥) → a * get_or errors k 0 ≤ least → Cut a least m place errors (k - 1)
-  cut_next {k} h C n p =
-      record {
-        most = omega (arith, C.most);
-        inside = λ i g l. at (λ (x : ℕ). get_or place x 0 ≡ 63 → ⊥) i g (λ d. C.inside i d l) n;
-        poor = λ i g l. at (λ (x : ℕ). a * get_or errors x 0 ≤ least) i g (λ d. C.poor i d l) p;
-      }
-    where
-      at : (P : ℕ → Type 0) (i : ℕ) → k - 1 < i → (k < i → P i) → P k → P i
-      at P i g f p = elim (dec_lt k i) [ yes d ↦ f d | no d ↦ let e : k ≡ i = omega arith in subst P e p ]
-
 -- the search of what is left decides the block
-pub cuttable : {m total : ℕ} {place sizes errors table : List ℕ} → Job m total place sizes errors table → Cuttable m place errors table
-cuttable {m} {place = place} {errors = errors} {table = table} J =
-    record {
-      most = J.given.gathered.most;
-      place_long = J.given.gathered.place_long;
-      errors_long = J.given.gathered.errors_long;
-      bits_long = J.given.table.long;
-      least_most = J.given.table.most LEAST;
-      error_most = λ i h l. omega (arith, J.given.gathered.error_is i h l, J.given.limits.drops_most (get_or place i 0));
-    }
+module _ (a b : ℕ) {table : Table} {block : Gathered} {r : ℕ} (C : Cut a (b * get_or table.bits LEAST 0) block r) where
+  pub cut_job : Job table block → Job table (cut block r)
+  cut_job J = record { block = front J.block (level_at block.levels r).place; given = front_given J.block a b table block J.given r C }
 
-module _ (a b : ℕ) {m total : ℕ} {place sizes errors : List ℕ} (table : List ℕ) {r : ℕ} (C : Cut a (b * get_or table LEAST 0) m place errors r) where
-  pub cut_job : Job m total place sizes errors table → Job r total place sizes errors table
-  cut_job J = record { block = front J.block (get_or place r 0); given = front_given J.block a b m total place sizes errors table J.given r C }
-
-  pub cut_decided : {d : Decision} → Decided a b r total place sizes errors table d → Decided a b m total place sizes errors table d
+  pub cut_decided : {d : Option Chosen} → Decided a b table (cut block r) d → Decided a b table block d
   cut_decided D =
-      record { decides = λ B G. decides B a b m total place sizes errors table G r C (D.decides (front B (get_or place r 0)) (front_given B a b m total place sizes errors table G r C)) }
+      record { decides = λ B G. decides B a b table block G r C (D.decides (front B (level_at block.levels r).place) (front_given B a b table block G r C)) }

@@ -2,8 +2,8 @@ pub mod Chain
 pub mod Pricing
 pub mod Scanning
 pub mod Forgetting
+pub mod Node
+pub mod Filling
 pub mod Cutting
 pub mod Winner
-pub mod Node
-pub mod Nodes
 pub mod Walking

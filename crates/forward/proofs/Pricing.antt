@@ -1,5 +1,4 @@
 -- What an entry of the table of bits costs: b for each bit, or FAR for a missing code.
--- Assumes nothing.
 use mathlib.Core.Path.{◌≡◌}
 use mathlib.Core.Bool.{Bool, true, false}
 use mathlib.Core.List.{List}
@@ -11,9 +10,9 @@ use lib.Dec.{eqb}
 use lib.ListN.{get_or}
 use Rattle.block.specs.First.{pick, first_below}
 use Rattle.block.proofs.First.{first_fails}
-use Rattle.price.specs.Price.{most_on_bits}
-use Rattle.forward.specs.Given.{NO, misses, is_full}
-use Rattle.forward.specs.Scanning.{FAR, priced}
+use Rattle.price.specs.Accepted.{most_on_bits}
+use Rattle.forward.specs.declared.table.TheConstants.{NO, FAR}
+use Rattle.forward.specs.Bits.{misses, is_full, priced}
 
 pub priced_some : (b n : ℕ) → (n ≡ NO → ⊥) → priced b n ≡ b * n
 unfolding priced

@@ -4,8 +4,7 @@ use Rattle.block.specs.Block.{Block}
 use Rattle.block.specs.Choice.{bits, error, keep_number}
 use Rattle.price.specs.Best.{Best, NoChoice}
 use Rattle.forward.specs.declared.Chosen.{Chosen}
-use Rattle.forward.specs.declared.Decision.{Decision}
-use Rattle.forward.specs.declared.Decision.TheVariants as decision
+use Rattle.std.specs.Prelude.{Option, None, Some}
 
 -- the bits, the error and the keep number of the best choice
 pub record OfBest (B : Block) (a b : ℕ) (p : Chosen) : Type 0 where
@@ -15,6 +14,6 @@ pub record OfBest (B : Block) (a b : ℕ) (p : Chosen) : Type 0 where
   pub error_is : p.error.0 ≡ error B 0 choice
   pub keep_is : p.keep ≡ keep_number choice
 
-pub record Decides (B : Block) (a b : ℕ) (r : Decision) : Type 0 where
-  pub best : (p : Chosen) → r ≡ decision.Best p → OfBest B a b p
-  pub nothing : r ≡ decision.Nothing → NoChoice B
+pub record Decides (B : Block) (a b : ℕ) (r : Option Chosen) : Type 0 where
+  pub best : (p : Chosen) → r ≡ Some p → OfBest B a b p
+  pub nothing : r ≡ None → NoChoice B

@@ -1,4 +1,3 @@
 pub mod Won
-pub mod Part
 pub mod Ends
 pub mod Narrowing

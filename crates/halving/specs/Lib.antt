@@ -1,2 +1,2 @@
-pub mod WonAt
-pub mod Between
+pub mod Won
+pub mod Brackets

@@ -1,207 +1,140 @@
-// A budget bracketed between two prices with 1 on error: the blocks' winners at the higher fit it, those at the lower pass it.
-
+//! A budget bracketed between two prices with 1 on error: the blocks' winners at the higher fit it, those at the lower pass it.
 #![tactic(auto)]
 
-ghost use Rattle.std.specs.Prelude.{◌≡◌, ◌+◌, ◌*◌, ◌/◌, ◌≤◌, ◌<◌, length};
-ghost use Rattle.block.specs.Level.{block_of};
-ghost use Rattle.block.specs.Limits.{Levels, Steps, most_bits};
-ghost use Rattle.price.specs.Price.{Accepted, most_on_bits};
-ghost use Rattle.attained.specs.Attained.{block_at};
-ghost use Rattle.still.specs.Sound.{Sound};
-ghost use Rattle.forward.specs.Given.{Room};
-ghost use Rattle.search.specs.BitTable.{Made};
-ghost use Rattle.halving.specs.WonAt.{Won, EndAt, Brackets, RoomFor};
-ghost use Rattle.halving.specs.Between.{pair_in, Between, AllBetween, Wide, Chords, Taken};
+ghost use Rattle.std.specs.Prelude.{◌≡◌, ℕ, ◌+◌, ◌*◌, ◌≤◌, ◌<◌, OnOk, IfErr, length};
+ghost use Rattle.block.specs.Limits.{most_bits};
+ghost use Rattle.price.specs.Accepted.{most_on_bits};
+ghost use Rattle.attained.specs.Chosen.{chosen_at};
+ghost use Rattle.attained.specs.Uncodable.{FirstUncodable};
+ghost use Rattle.still.specs.Blocks.{block_in, count_of};
+ghost use Rattle.halving.specs.Won.{Won, Between};
+ghost use Rattle.halving.specs.Brackets.{EndAt, Brackets, Inside, Chords, Taken};
 
-use forward::{Chosen, Decision};
+use answers::Point;
+use forward::Chosen;
 use price::{Bits, Error, Price};
+use search::Search;
+use winners::{Uncodable, together, winners};
 
-// An end of the range: a price on bits, and the bits and the error of all blocks' winners there.
+/// An end of the range: a price on bits, with 1 on error; each block's winner there, from the first on; and what they come to.
 #[derive(Clone, Copy)]
 pub struct End {
     pub price: u64,
-    pub bits: Bits,
-    pub error: Error,
+    // Room for as many blocks as a still may have, since the library has no heap.
+    pub each: [Chosen; 1024],
+    pub point: Point,
 }
 
-#[derive(Clone, Copy)]
-pub struct Range {
-    pub low: End,
-    pub high: End,
-}
-
-// One turn in so many halves the range, so that the turns stay few whatever the errors are.
+/// One turn in so many halves the range, so that the turns stay few whatever the errors are.
 const ROUND: usize = 8;
 
 // The winner of a block at a price between two others: theirs where it is the same, and otherwise the best choice, searched for.
-fn winner(
-    levels: &[i16],
-    steps: &[u8],
-    lengths: &[u8],
-    price: u64,
-    full: bool,
-    table: &[u64],
-    place: &mut [usize],
-    size: &mut [usize],
-    drop: &mut [u64],
-    cost: &mut [u64],
-    sum: &mut [u64],
-    pred: &mut [usize],
-    dear: Chosen,
-    cheap: u64,
-) -> Chosen
-    requires block { Levels levels.now × Steps steps.now × Made lengths.now table.now full }
-    requires price { Accepted 1 price }
-    requires room { Room place.old size.old drop.old × Room cost.old sum.old pred.old }
-    requires between { Between (block_of levels.now steps.now lengths.now) price (pair_in dear) dear.keep cheap }
-    ensures { Won (block_of levels.now steps.now lengths.now) price (pair_in result) result.keep }
+fn winner(search: &mut Search, i: usize, price: u64, dear: Chosen, cheap: Bits) -> Chosen
+    requires block { i < count_of search.old.still }
+    requires price { price ≤ most_on_bits }
+    requires between { Between (block_in search.old.still i) price dear cheap.0 }
+    ensures won { Won (block_in search.old.still i) price result }
+    ensures still { search.new.still ≡ search.old.still }
 {
-    if dear.bits.0 == cheap {
+    if dear.bits == cheap {
         return dear;
     }
-    match search::decide(
-        levels,
-        steps,
-        Price { a: 1, b: price },
-        full,
-        table,
-        place,
-        size,
-        drop,
-        cost,
-        sum,
-        pred,
-    ) {
-        Decision::Best(w) => w,
-        // Never: the dear winner is codable.
-        Decision::Nothing => dear,
-    }
+    // There is one, since the dear winner is codable.
+    search.best(i, Price { a: 1, b: price }).unwrap()
 }
 
-// Stores each block's winner at a price between two others; `cb`, `ce` and `ck` hold those at the higher, `lb` the bits at the lower.
-fn decide_between(
-    levels: &[i16],
-    steps: &[u8],
-    lengths: &[u8],
-    price: u64,
-    full: bool,
-    table: &[u64],
-    cb: &[u64],
-    ce: &[u64],
-    ck: &[u64],
-    lb: &[u64],
-    mb: &mut [u64],
-    me: &mut [u64],
-    mk: &mut [u64],
-) -> End
-    requires still { Sound levels.now steps.now lengths.now (length levels.now / 64) }
-    requires table { Made lengths.now table.now full }
-    requires price { Accepted 1 price }
-    requires between { AllBetween (block_at levels.now steps.now lengths.now) (length levels.now / 64) price cb.now ce.now ck.now lb.now }
-    requires room { RoomFor (length levels.now / 64) mb.old me.old mk.old }
-    ensures { (result.price ≡ price) × EndAt (block_at levels.now steps.now lengths.now) (length levels.now / 64) result mb.new me.new mk.new }
-{
-    let mut place = [0usize; 64];
-    let mut size = [0usize; 64];
-    let mut drop = [0u64; 64];
-    let mut cost = [0u64; 64];
-    let mut sum = [0u64; 64];
-    let mut pred = [0usize; 64];
-    let n = levels.len() / 64;
-    let mut bits = 0u64;
-    let mut error = 0u64;
-    let mut i = 0;
-    while i < n {
-        let block = &levels[64 * i..64 * i + 64];
-        let dear = Chosen {
-            bits: Bits(cb[i]),
-            error: Error(ce[i]),
-            keep: ck[i],
-        };
-        let w = winner(
-            block, steps, lengths, price, full, table, &mut place, &mut size, &mut drop, &mut cost,
-            &mut sum, &mut pred, dear, lb[i],
-        );
-        mb[i] = w.bits.0;
-        me[i] = w.error.0;
-        mk[i] = w.keep;
-        bits += w.bits.0;
-        error += w.error.0;
-        i += 1;
-    }
-    End {
-        price,
-        bits: Bits(bits),
-        error: Error(error),
-    }
-}
+impl End {
+    /// What stands for an end before its blocks are decided.
+    pub const NONE: End = End {
+        price: 0,
+        each: [Chosen::NONE; 1024],
+        point: Point {
+            bits: Bits(0),
+            error: Error(0),
+            kept: 0,
+        },
+    };
 
-// By how much x is above y.
-fn above(x: u64, y: u64) -> u64
-    ensures { result ≤ x }
-{
-    if y < x {
-        return x - y;
+    /// Decides each block of a still at a price, or tells the first that has no codable choice.
+    pub fn decide(&mut self, search: &mut Search, price: u64) -> Result<(), Uncodable>
+        requires { price ≤ most_on_bits }
+        ensures price { self.new.price ≡ price }
+        ensures decided { OnOk result (EndAt (block_in search.old.still) (count_of search.old.still) self.new) }
+        ensures uncodable { IfErr result (λ u. FirstUncodable (block_in search.old.still) (count_of search.old.still) u.block) }
+        ensures still { search.new.still ≡ search.old.still }
+    {
+        let n = search.still.len();
+        self.price = price;
+        self.point = winners(search, Price { a: 1, b: price }, &mut self.each[..n])?;
+        Ok(())
     }
-    0
+
+    // Decides each block at a price between those of two ends.
+    fn decide_between(&mut self, search: &mut Search, price: u64, low: &End, high: &End)
+        requires { Inside (block_in search.old.still) (count_of search.old.still) price low.now high.now }
+        ensures price { self.new.price ≡ price }
+        ensures decided { EndAt (block_in search.old.still) (count_of search.old.still) self.new }
+        ensures still { search.new.still ≡ search.old.still }
+    {
+        let n = search.still.len();
+        self.price = price;
+        for i in 0..n {
+            self.each[i] = winner(search, i, price, high.each[i], low.each[i].bits);
+        }
+        self.point = together(&self.each[..n]);
+    }
+
+    // Becomes another end of n blocks.
+    fn take_over(&mut self, other: &End, n: usize)
+        requires { n ≤ 1024 }
+        ensures { Taken n other.now self.new }
+    {
+        self.price = other.price;
+        self.each[..n].copy_from_slice(&other.each[..n]);
+        self.point = other.point;
+    }
 }
 
 // The bits that a block's chord, from its winner at the high end to that at the low, adds if it is as steep as a price.
-fn chord(price: u64, few: u64, more_error: u64, many: u64, less_error: u64) -> u64
-    requires { (price ≤ most_on_bits) × (many ≤ most_bits) }
+fn chord(price: u64, dear: Chosen, cheap: Chosen) -> u64
+    requires price { price ≤ most_on_bits }
+    requires cheap { cheap.bits.0 ≤ most_bits }
     ensures { result ≤ most_bits }
 {
-    let run = above(many, few);
-    if price * run <= above(more_error, less_error) {
-        return run;
-    }
-    0
+    let run = cheap.bits.0.saturating_sub(dear.bits.0);
+    let fall = dear.error.0.saturating_sub(cheap.error.0);
+    if price * run <= fall { run } else { 0 }
 }
 
 // The bits that all chords as steep as a price add.
-fn chords(price: u64, n: usize, cb: &[u64], ce: &[u64], lb: &[u64], le: &[u64]) -> u64
-    requires price_le_most_on_bits { price ≤ most_on_bits }
-    requires chords { Chords n cb.now ce.now lb.now le.now }
-    ensures { result ≤ most_bits * n }
+fn chords(price: u64, high: &[Chosen], low: &[Chosen]) -> u64
+    requires price { price ≤ most_on_bits }
+    requires few { length low.now ≤ 1024 }
+    requires low { (i : ℕ) → i < length low.now → (chosen_at low.now i).bits.0 ≤ most_bits }
+    ensures { result ≤ most_bits * length low.now }
 {
-    let mut bits = 0u64;
-    let mut i = 0;
-    while i < n {
-        bits += chord(price, cb[i], ce[i], lb[i], le[i]);
-        i += 1;
+    let mut bits = 0;
+    for (dear, cheap) in high.iter().zip(low) {
+        bits += chord(price, *dear, *cheap);
     }
     bits
 }
 
-// The number inside the range that is nearest to x.
-fn within(x: u64, low: u64, high: u64) -> u64
-    requires { low + 1 < high }
-    ensures { (low < result) × (result < high) }
+// The price inside the range at which the chords of n blocks would meet the budget. No chord is steeper than all errors together.
+fn meet(low: &End, high: &End, n: usize, budget: u64) -> u64
+    requires wide { low.now.price + 1 < high.now.price }
+    requires most { high.now.price ≤ most_on_bits }
+    requires chords { Chords n low.now }
+    ensures { (low.now.price < result) × (result < high.now.price) }
 {
-    if x <= low {
-        return low + 1;
-    }
-    if high <= x {
-        return high - 1;
-    }
-    x
-}
-
-// The price inside the range at which the chords would meet the budget. No chord is steeper than all errors together.
-fn meet(range: Range, budget: u64, n: usize, cb: &[u64], ce: &[u64], lb: &[u64], le: &[u64]) -> u64
-    requires wide { Wide range }
-    requires chords { Chords n cb.now ce.now lb.now le.now }
-    ensures { (range.low.price < result) × (result < range.high.price) }
-{
-    let room = above(budget, range.high.bits.0);
-    let low = range.low.price;
-    let high = range.high.price;
-    let fall = above(range.high.error.0, range.low.error.0);
-    let mut passes = low;
-    let mut fits = within(fall, low, high);
+    let room = budget.saturating_sub(high.point.bits.0);
+    let fall = high.point.error.0.saturating_sub(low.point.error.0);
+    let mut passes = low.price;
+    let mut fits = fall.clamp(low.price + 1, high.price - 1);
+    // Halved by hand: the library searches slices, and no range of numbers.
     while 1 < fits - passes {
         let price = passes + (fits - passes) / 2;
-        if chords(price, n, cb, ce, lb, le) <= room {
+        if chords(price, &high.each[..n], &low.each[..n]) <= room {
             fits = price;
         } else {
             passes = price;
@@ -210,92 +143,37 @@ fn meet(range: Range, budget: u64, n: usize, cb: &[u64], ce: &[u64], lb: &[u64],
     fits
 }
 
-// A price inside the range: where the chords meet the budget; once a round the middle.
-fn inside(
-    range: Range,
-    turn: usize,
-    budget: u64,
-    n: usize,
-    cb: &[u64],
-    ce: &[u64],
-    lb: &[u64],
-    le: &[u64],
-) -> u64
-    requires wide { Wide range }
-    requires chords { Chords n cb.now ce.now lb.now le.now }
-    ensures { (range.low.price < result) × (result < range.high.price) }
+// A price inside the range of n blocks: where the chords meet the budget; once a round the middle.
+fn inside(low: &End, high: &End, n: usize, budget: u64, turn: usize) -> u64
+    requires wide { low.now.price + 1 < high.now.price }
+    requires most { high.now.price ≤ most_on_bits }
+    requires chords { Chords n low.now }
+    ensures { (low.now.price < result) × (result < high.now.price) }
 {
     if turn == 0 {
-        return range.low.price + (range.high.price - range.low.price) / 2;
+        return low.price + (high.price - low.price) / 2;
     }
-    meet(range, budget, n, cb, ce, lb, le)
+    meet(low, high, n, budget)
 }
 
-// Copies the numbers of the first n blocks.
-fn take_over(
-    n: usize,
-    mb: &[u64],
-    me: &[u64],
-    mk: &[u64],
-    tb: &mut [u64],
-    te: &mut [u64],
-    tk: &mut [u64],
-)
-    requires room_for { RoomFor n mb.now me.now mk.now }
-    requires room_for_2 { RoomFor n tb.old te.old tk.old }
-    ensures { Taken n mb.now me.now mk.now tb.new te.new tk.new }
+/// Narrows the range until no price is inside: the winners at a price inside become the end on their side of the budget.
+pub fn bracket(search: &mut Search, budget: u64, low: &mut End, high: &mut End)
+    requires { Brackets (block_in search.old.still) (count_of search.old.still) budget low.old high.old }
+    ensures bracket { Brackets (block_in search.old.still) (count_of search.old.still) budget low.new high.new }
+    ensures narrow { high.new.price ≡ low.new.price + 1 }
+    ensures still { search.new.still ≡ search.old.still }
 {
-    let mut i = 0;
-    while i < n {
-        tb[i] = mb[i];
-        te[i] = me[i];
-        tk[i] = mk[i];
-        i += 1;
-    }
-}
-
-// Narrows the range until no price is inside: the winners at a price inside become the end on their side of the budget.
-// `cb`, `ce` and `ck` hold the bits, the error and the keep number of each block's winner at the high end, `lb`, `le` and `lk` at the low.
-pub fn bracket(
-    levels: &[i16],
-    steps: &[u8],
-    lengths: &[u8],
-    budget: u64,
-    given: Range,
-    cb: &mut [u64],
-    ce: &mut [u64],
-    ck: &mut [u64],
-    lb: &mut [u64],
-    le: &mut [u64],
-    lk: &mut [u64],
-) -> Range
-    requires still { Sound levels.now steps.now lengths.now (length levels.now / 64) }
-    requires room { RoomFor (length levels.now / 64) cb.old ce.old ck.old × RoomFor (length levels.now / 64) lb.old le.old lk.old }
-    requires given { Brackets (block_at levels.now steps.now lengths.now) (length levels.now / 64) budget given cb.old ce.old ck.old lb.old le.old lk.old }
-    ensures bracket { Brackets (block_at levels.now steps.now lengths.now) (length levels.now / 64) budget result cb.new ce.new ck.new lb.new le.new lk.new }
-    ensures narrow { result.high.price ≡ result.low.price + 1 }
-{
-    let mut table = [0u64; 704];
-    let full = search::bit_table(lengths, &mut table);
-    let mut mb = [0u64; 1024];
-    let mut me = [0u64; 1024];
-    let mut mk = [0u64; 1024];
-    let n = levels.len() / 64;
-    let mut range = given;
+    let n = search.still.len();
+    let mut middle = End::NONE;
     let mut turn = 1;
-    while range.high.price - range.low.price > 1 {
-        let price = inside(range, turn, budget, n, cb, ce, lb, le);
+    while low.price + 1 < high.price {
+        let price = inside(low, high, n, budget, turn);
         turn = (turn + 1) % ROUND;
-        let between = decide_between(
-            levels, steps, lengths, price, full, &table, cb, ce, ck, lb, &mut mb, &mut me, &mut mk,
-        );
-        if between.bits.0 <= budget {
-            take_over(n, &mb, &me, &mk, cb, ce, ck);
-            range.high = between;
+        middle.decide_between(search, price, low, high);
+        if middle.point.bits.0 <= budget {
+            high.take_over(&middle, n);
         } else {
-            take_over(n, &mb, &me, &mk, lb, le, lk);
-            range.low = between;
+            low.take_over(&middle, n);
         }
     }
-    range
 }

@@ -1,30 +1,22 @@
--- The bytes of numbers: how many there are, and which stands where.
+-- The bytes of a list of numbers are those of its numbers, one after another.
 -- Assumes nothing.
-use mathlib.Core.Path.{◌≡◌, refl}
-use mathlib.Core.List.{List, [], ◌∷◌}
-use Prim.Native.Nat.{ℕ, zero, suc, ◌-◌, ◌*◌, ◌/◌, ◌%◌, ◌<◌}
-use native.Mathlib.Nat.{mul-suc}
-use native.Mathlib.Omega.{arith}
-use lib.ListN.{length, get_or}
+use Rattle.std.proofs.Common.{◌≡◌, ℕ, ◌+◌, ◌/◌, ◌<◌, List, [], ◌∷◌, ◌++◌, length, get_or, take, refl, ap, arith}
+use Rattle.std.proofs.lemmas.List.{take_more}
+use Rattle.std.specs.Int.{w64, to_be_bytes}
 use Rattle.headend.specs.HeadEnd.{byte_at, bytes_of}
 
-pub bytes_long : (xs : List ℕ) → length (bytes_of xs) ≡ 8 * length xs
+bytes_of-append : (xs ys : List ℕ) → bytes_of (xs ++ ys) ≡ bytes_of xs ++ bytes_of ys
 unfolding bytes_of
-bytes_long [] = refl
-bytes_long (x ∷ xs) = omega (arith, bytes_long xs, mul-suc 8 (length xs))
+bytes_of-append [] ys = refl
+bytes_of-append (x ∷ xs) ys = ap (λ (l : List ℕ). byte_at 7 x ∷ byte_at 6 x ∷ byte_at 5 x ∷ byte_at 4 x ∷ byte_at 3 x ∷ byte_at 2 x ∷ byte_at 1 x ∷ byte_at 0 x ∷ l) (bytes_of-append xs ys)
 
-pub bytes_at : (xs : List ℕ) (i : ℕ) → i < 8 * length xs → get_or (bytes_of xs) i 0 ≡ byte_at (7 - i % 8) (get_or xs (i / 8) 0)
+bytes_of_one : (x : ℕ) → bytes_of (x ∷ []) ≡ to_be_bytes w64 x
+unfolding bytes_of byte_at
+bytes_of_one x = let e : x / 1 ≡ x = omega arith in rw e
+
+pub no_bytes : bytes_of [] ≡ []
 unfolding bytes_of
-bytes_at [] i h = absurd (omega arith)
-bytes_at (x ∷ xs) zero h = refl
-bytes_at (x ∷ xs) (suc zero) h = refl
-bytes_at (x ∷ xs) (suc (suc zero)) h = refl
-bytes_at (x ∷ xs) (suc (suc (suc zero))) h = refl
-bytes_at (x ∷ xs) (suc (suc (suc (suc zero)))) h = refl
-bytes_at (x ∷ xs) (suc (suc (suc (suc (suc zero))))) h = refl
-bytes_at (x ∷ xs) (suc (suc (suc (suc (suc (suc zero)))))) h = refl
-bytes_at (x ∷ xs) (suc (suc (suc (suc (suc (suc (suc zero))))))) h = refl
-bytes_at (x ∷ xs) (suc (suc (suc (suc (suc (suc (suc (suc i)))))))) h =
-    let q : suc (suc (suc (suc (suc (suc (suc (suc i))))))) / 8 ≡ suc (i / 8) = omega arith in
-    let m : suc (suc (suc (suc (suc (suc (suc (suc i))))))) % 8 ≡ i % 8 = omega arith in
-    rw (q, m) (bytes_at xs i (omega (arith, mul-suc 8 (length xs))))
+no_bytes = refl
+
+pub bytes_more : (xs : List ℕ) (i : ℕ) → i < length xs → bytes_of (take (i + 1) xs) ≡ bytes_of (take i xs) ++ to_be_bytes w64 (get_or xs i 0)
+bytes_more xs i h = rw (take_more xs i 0 h, bytes_of-append, bytes_of_one)

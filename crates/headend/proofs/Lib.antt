@@ -1,4 +1,3 @@
 pub mod Bytes
-pub mod Buffer
 pub mod Told
 pub mod Unique

@@ -1,8 +1,9 @@
 -- What the head-end's call promises: it gets a packet, a budget and a buffer of 8n bytes (other lengths: 5), and returns 0 or the
 -- number of the refusal; on 0 the buffer holds each block's keep number, most significant byte first, and on a refusal what it held.
-use Rattle.std.specs.Prelude.{◌≡◌, List, [], ◌∷◌, ℕ, ◌+◌, ◌*◌, ◌/◌, ◌%◌, ◌^◌, eqb, length, replicate}
+use Rattle.std.specs.Prelude.{◌≡◌, Result, List, [], ◌∷◌, ℕ, ◌+◌, ◌*◌, ◌/◌, ◌%◌, ◌^◌, eqb, length, replicate}
 use Rattle.block.specs.First.{pick}
-use Rattle.answers.specs.declared.PointAnswer.{PointAnswer}
+use Rattle.answers.specs.declared.Point.{Point}
+use Rattle.answers.specs.declared.Refusal.{Refusal}
 use Rattle.answers.specs.Said.{Said, point, corners, kept, refused, fine, refuse, said_point}
 use Rattle.packet.specs.Packet.{packed_blocks, packed_levels, packed_steps, packed_lengths, packet_verdict}
 use Rattle.budget_job.specs.BudgetJob.{BudgetMeets}
@@ -28,13 +29,13 @@ unfoldable pub places : (n bytes : ℕ) → ℕ
 places n bytes = pick (eqb bytes (8 * n)) n (n + 1)
 
 -- the budget job on the packed still: its answer, and the keep numbers in the places that the buffer has
-pub record PackedMeets (packet : List ℕ) (budget : ℕ) (buffer : List ℕ) (a : PointAnswer) (numbers : List ℕ) : Type 0 where
+pub record PackedMeets (packet : List ℕ) (budget : ℕ) (buffer : List ℕ) (a : Result Point Refusal) (numbers : List ℕ) : Type 0 where
   pub job : BudgetMeets (packed_levels packet) (packed_steps packet) (packed_lengths packet) budget (replicate (places (packed_blocks packet) (length buffer)) 0) a numbers
 
 -- the number r that is returned, and the buffer before and after the call
 pub data HeadEndMeets (packet : List ℕ) (budget : ℕ) (before : List ℕ) (r : ℕ) (after : List ℕ) : Type 0 where
   refuses : (number first second : ℕ) → packet_verdict packet ≡ refuse number first second → r ≡ number → after ≡ before
       → HeadEndMeets packet budget before r after
-  answers : packet_verdict packet ≡ fine → (a : PointAnswer) (numbers : List ℕ) → PackedMeets packet budget before a numbers
+  answers : packet_verdict packet ≡ fine → (a : Result Point Refusal) (numbers : List ℕ) → PackedMeets packet budget before a numbers
       → r ≡ number_said (said_point a) → after ≡ pick (eqb r 0) (bytes_of numbers) before
       → HeadEndMeets packet budget before r after

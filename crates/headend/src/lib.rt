@@ -1,50 +1,45 @@
-// The head-end's call: a packed still fitted into a budget, its keep numbers in a buffer of bytes.
-
+//! The head-end's call: a packed still fitted into a budget, its keep numbers in a buffer of bytes.
 #![tactic(auto)]
 
-ghost use Rattle.std.specs.Prelude.{◌≡◌, ◌*◌, ◌≤◌, ◌<◌, length, replicate};
-ghost use Rattle.answers.specs.Said.{number_of, said_point};
-ghost use Rattle.packet.specs.Packet.{packed_blocks, Room};
-ghost use Rattle.headend.specs.HeadEnd.{byte_at, bytes_of, number_said, places as placesFor, HeadEndMeets};
+ghost use Rattle.std.specs.Prelude.{◌≡◌, ◌+◌, ◌*◌, ◌≤◌, length};
+ghost use Rattle.answers.specs.Said.{said_point};
+ghost use Rattle.headend.specs.HeadEnd.{bytes_of, number_said, places as placesFor, HeadEndMeets};
 
-use answers::{Checked, PointAnswer, Refusal};
+use answers::{Point, Refusal};
+use packet::{MOST_BLOCKS, MOST_LEVELS, Packet};
 
-// No packet has more blocks.
-const MOST_BLOCKS: usize = 256;
-
-fn number_of(r: Refusal) -> u32
-    ensures { result ≡ number_of r.kind }
+/// Fits a packed still into a budget of bits, its keep numbers into a buffer of eight bytes for each block. Gives 0, or
+/// the number of the refusal.
+pub fn anb_budget(packet: &[u8], budget: u32, keep: &mut [u8]) -> u32
+    ensures { HeadEndMeets packet.now budget keep.old result keep.new }
 {
-    let kind = r.kind;
-    answers::number(kind) as u32
+    match fit(packet, budget, keep) {
+        Ok(_) => 0,
+        Err(refusal) => refusal.kind.number(),
+    }
 }
 
-// 0 for a point, or the number of the refusal.
-fn returned(answer: PointAnswer) -> u32
-    ensures { result ≡ number_said (said_point answer) }
+// The job on what the packet holds; its keep numbers are stored where it has a point.
+fn fit(packet: &[u8], budget: u32, keep: &mut [u8]) -> Result<Point, Refusal>
+    ensures { HeadEndMeets packet.now budget keep.old (number_said (said_point result)) keep.new }
 {
-    match answer {
-        PointAnswer::Point(_) => 0,
-        PointAnswer::Refused(r) => number_of(r),
-    }
+    let packet = Packet::check(packet)?;
+    let mut room = [0i16; MOST_LEVELS];
+    let levels = packet.levels(&mut room);
+    let mut numbers = [0u64; MOST_BLOCKS + 1];
+    let numbers = &mut numbers[..places(packet.blocks(), keep.len())];
+    let point = budget_job::fit(levels, packet.steps(), &packet.lengths(), budget, numbers)?;
+    store(numbers, keep);
+    Ok(point)
 }
 
 // For how many keep numbers the buffer has places. A wrong length counts as one too many, so that the job refuses it in its order.
 fn places(n: usize, bytes: usize) -> usize
     requires { n ≤ 256 }
-    ensures { result ≡ placesFor n bytes }
+    ensures places { result ≡ placesFor n bytes }
+    ensures most { result ≤ n + 1 }
 {
-    if bytes == 8 * n {
-        return n;
-    }
-    n + 1
-}
-
-fn byte_at(k: usize, number: u64) -> u8
-    requires { k < 8 }
-    ensures { result ≡ byte_at k number }
-{
-    ((number >> (8 * k)) % 256) as u8
+    if bytes == 8 * n { n } else { n + 1 }
 }
 
 // Each keep number in eight bytes, most significant byte first.
@@ -52,56 +47,7 @@ fn store(numbers: &[u64], keep: &mut [u8])
     requires { length keep.old ≡ 8 * length numbers.now }
     ensures { keep.new ≡ bytes_of numbers.now }
 {
-    let mut i = 0;
-    while i < keep.len() {
-        keep[i] = byte_at(7 - i % 8, numbers[i / 8]);
-        i += 1;
-    }
-}
-
-// The job on what the packet holds, in the room lent for it.
-fn fit_packed(
-    packet: &[u8],
-    budget: u32,
-    levels: &mut [i16],
-    steps: &mut [u8],
-    lengths: &mut [u8],
-    numbers: &mut [u64],
-    keep: &mut [u8],
-) -> u32
-    requires room { Room packet.now levels.old steps.old lengths.old }
-    requires zeros { numbers.old ≡ replicate (placesFor (packed_blocks packet.now) (length keep.old)) 0 }
-    ensures { HeadEndMeets packet.now budget keep.old result keep.new }
-{
-    packet::unpack(packet, levels, steps, lengths);
-    let number = returned(budget_job::fit(levels, steps, lengths, budget, numbers));
-    if number == 0 {
-        store(numbers, keep);
-    }
-    number
-}
-
-pub fn anb_budget(packet: &[u8], budget: u32, keep: &mut [u8]) -> u32
-    ensures { HeadEndMeets packet.now budget keep.old result keep.new }
-{
-    match packet::check(packet) {
-        Checked::Refused(r) => number_of(r),
-        Checked::Fine => {
-            let mut levels = [0i16; 64 * MOST_BLOCKS];
-            let mut steps = [0u8; 64];
-            let mut lengths = [0u8; 256];
-            let mut numbers = [0u64; MOST_BLOCKS + 1];
-            let n = packet::blocks(packet);
-            let room = places(n, keep.len());
-            fit_packed(
-                packet,
-                budget,
-                &mut levels[..64 * n],
-                &mut steps,
-                &mut lengths,
-                &mut numbers[..room],
-                keep,
-            )
-        }
+    for (i, number) in numbers.iter().enumerate() {
+        keep[8 * i..8 * i + 8].copy_from_slice(&number.to_be_bytes());
     }
 }

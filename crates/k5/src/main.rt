@@ -1,28 +1,29 @@
-// Prints Table K.5 as the library holds it, a row for each run. What it must print is made of the standard's own form
-// of the table, sixteen counts and 162 values, by tests/k5.awk.
-
+//! Prints Table K.5 as the library holds it, a row for each run. What it must print is made of the standard's own form
+//! of the table, sixteen counts and 162 values, by tests/k5.awk.
 #![tactic(auto)]
 
 use block::tables::K5;
-use std::io;
+use std::{fmt, io};
 
-fn wide(x: u8) -> u64 {
-    x as u64
-}
+// The lengths of a run's codes, size 0 to 15.
+#[derive(Clone, Copy)]
+struct Row<'a>(&'a [u8]);
 
-fn end_of(rt: &impl Print, i: usize) -> io::Result<()> {
-    if i % 16 == 15 {
-        rt.write_all(b"\n")
-    } else {
-        rt.write_all(b" ")
+impl fmt::Display for Row<'_> {
+    fn fmt<W: fmt::Write>(&self, f: &mut fmt::Formatter<W>) -> fmt::Result {
+        for (size, length) in self.0.iter().enumerate() {
+            if 0 < size {
+                write!(f, " ")?;
+            }
+            write!(f, "{length}")?;
+        }
+        Ok(())
     }
 }
 
 fn main(rt: HostRuntime) -> io::Result<()> {
-    let table = K5;
-    for i in 0..256 {
-        print!(rt; "{}", wide(table[i]))?;
-        end_of(&rt, i)?;
+    for row in K5.chunks_exact(16) {
+        println!(rt; "{}", Row(row))?;
     }
     Ok(())
 }

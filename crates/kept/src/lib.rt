@@ -1,19 +1,13 @@
-// How many coefficients keep numbers keep.
-
+//! How many coefficients keep numbers keep.
 #![tactic(auto)]
 
 ghost use Rattle.std.specs.Prelude.{◌≡◌, ◌≤◌, length};
 ghost use Rattle.kept.specs.Kept.{kept_of};
 
+/// How many coefficients the keep numbers of at most 1,024 blocks keep: the count of their ones.
 pub fn kept(keep: &[u64]) -> u64
     requires { length keep.now ≤ 1024 }
     ensures { result ≡ kept_of keep.now }
 {
-    let mut count = 0u64;
-    let mut i = 0;
-    while i < keep.len() {
-        count += u64::count_ones(keep[i]) as u64;
-        i += 1;
-    }
-    count
+    keep.iter().map(|k| u64::from(k.count_ones())).sum()
 }

@@ -1,31 +1,80 @@
 -- From the walk along the corners to the job's answer: what is remembered is stored, or the list is walked again.
 -- Assumes nothing.
-use mathlib.Core.Path.{◌≡◌, refl, ap, sym, ◌∙◌}
-use mathlib.Core.List.{List}
-use Prim.Native.Nat.{ℕ, zero, suc, ◌+◌, ◌*◌, ◌/◌, ◌≤◌, ◌<◌}
-use native.Mathlib.Decide.{dec_le}
-use native.Mathlib.Omega.{arith}
-use lib.ListN.{length, get_or, take}
-use lib.Seq.{take-length}
+use Rattle.std.proofs.Common.{◌≡◌, refl, ap, sym, subst, ◌∙◌, Result, Ok, Err, IsErrAnd, ℤ, ℕ, zero, suc, ◌+◌, ◌-◌, ◌*◌, ◌/◌, ◌≤◌, ◌<◌, List, ◌++◌, length, get_or, take, drop, arith}
+use Rattle.std.proofs.lemmas.List.{get_or-take, get_or-drop, get_or-append_right, length-take-le, length-drop}
+use lib.ListN.{get_or-append, length-append}
 use Rattle.block.specs.Block.{Block}
-use Rattle.block.specs.Limits.{Limits}
-use Rattle.price.specs.Price.{most_on_bits}
+use Rattle.price.specs.Accepted.{most_on_bits}
 use Rattle.corners.specs.Pair.{Pair}
+use Rattle.corners.specs.Price.{Least}
+use Rattle.corners.specs.Still.{total}
 use Rattle.corners.specs.Listed.{entry, entries}
 use Rattle.corners.proofs.Corners.{pair_path}
 use Rattle.corners.proofs.Dearest.{dearest_fewest}
+use Rattle.corners.proofs.Sums.{total_same}
 use Rattle.corners.proofs.Unique.{list_unique}
-use Rattle.attained.specs.Attained.{Attained}
-use Rattle.attained.specs.Uncodable.{HasChoice, FirstUncodable}
+use Rattle.forward.specs.declared.Chosen.{Chosen}
+use Rattle.attained.specs.Attained.{block_at, Attained}
+use Rattle.attained.specs.Chosen.{pair_in, pair_at}
+use Rattle.attained.specs.Uncodable.{HasChoice}
 use Rattle.attained.proofs.Winning.{gives_wins, attained_error}
-use Rattle.answers.specs.declared.CornersAnswer.{CornersAnswer}
-use Rattle.answers.specs.Said.{said_corners, corners, refused}
-use Rattle.winners.specs.Winners.{pair_at, Winners}
-use Rattle.walk.specs.Written.{Written, Walked}
-use Rattle.list_job.specs.declared.Found.{Found}
-use Rattle.list_job.specs.declared.Found.TheVariants as found
-use Rattle.list_job.specs.ListJob.{Lists, Lists.uncodable, Lists.short, Lists.lists}
-use Rattle.list_job.specs.Listing.{FromFirst, Finds, Finds.uncodable, Finds.corners}
+use Rattle.answers.specs.declared.Refusal.{Refusal}
+use Rattle.answers.specs.Said.{said_refusal, said_corners, corners, refused}
+use Rattle.still.specs.declared.Still.{Still}
+use Rattle.still.specs.Blocks.{count_of, block_in}
+use Rattle.still.proofs.Blocks.{block_in_limits}
+use Rattle.winners.specs.Winners.{Winners, Outcomes, Outcomes.all, Outcomes.uncodable}
+use Rattle.answers.specs.declared.Point.{Point}
+use Rattle.merge.specs.declared.Course.{Course}
+use Rattle.merge.specs.Standing.{corner_at}
+use Rattle.merge.specs.SettingOut.{SetOut}
+use Rattle.walk.specs.Written.{Walked}
+use Rattle.walk.specs.Walking.{StillAttains, First}
+use Rattle.walk.proofs.Writing.{all_pairs, all_kept, all_behind}
+use Rattle.list_job.specs.ListJob.{Lists, Lists.short, Lists.lists}
+use Rattle.list_job.specs.Listing.{AreEnds}
+
+-- What is told of an error that is passed on.
+pub said_err : (r : Result ℕ Refusal) (x : Refusal) → IsErrAnd r (λ e. e ≡ x) → said_corners r ≡ said_refusal x
+said_err (Err e) x h = ap said_refusal h
+said_err (Ok n) x h = absurd h
+
+-- What is said of the blocks of a still is said of those that were lent.
+pub lists_lent : (s : Still) {levels : List ℤ} {steps lengths before after : List ℕ} {r : Result ℕ Refusal} → s.levels.now ≡ levels → s.steps.now ≡ steps
+    → s.lengths.now ≡ lengths → Lists (block_in s) (count_of s) before r after → Lists (block_at levels steps lengths) (length levels / 64) before r after
+lists_lent s a b c h = rw (← a, ← b, ← c) h
+
+won : {B : ℕ → Block} {n a b : ℕ} {each : List Chosen} {p : Point} → Outcomes B n a b each (Ok p) → Winners B n a b each
+won (all q w s e) = w
+won (uncodable i u e) = cc
+
+-- the winners of a still that is the same
+pub won_on : {s t : Still} {a b : ℕ} {each : List Chosen} {p : Point} → s ≡ t → Outcomes (block_in s) (count_of s) a b each (Ok p) → Winners (block_in t) (count_of t) a b each
+won_on {a = a} {b = b} {each = each} e o = subst (λ (s : Still). Winners (block_in s) (count_of s) a b each) e (won o)
+
+module _ {s : Still} {first last : List Chosen} where
+  pub are_ends : Winners (block_in s) (count_of s) 1 most_on_bits first → Winners (block_in s) (count_of s) 1 0 last
+      → length first ≡ count_of s → length last ≡ count_of s → AreEnds s first last
+  are_ends w v e f = record {
+    ends = record { high = most_on_bits; above = omega arith; winners = w; goals_win = v; from_count = omega (arith, e); goals_count = omega (arith, f) };
+    least = dearest_fewest (λ i. Attained (block_in s i)) (count_of s) most_on_bits (pair_at first)
+        (λ i l X x. omega (arith, attained_error (block_in s i) (block_in_limits s i l) x)) (λ i l. gives_wins (block_in s i) (w.gives i l));
+  }
+
+  pub ends_codable : AreEnds s first last → (i : ℕ) → i < count_of s → HasChoice (block_in s i)
+  ends_codable e i l = let g = e.ends.winners.gives i l in record { choice = g.choice; codable = g.best.allowed }
+
+  -- Where the blocks set out they are at the first corner.
+  pub at_first : {t : Still} {c : Course} → t ≡ s → AreEnds s first last → SetOut t 0 first c → First c
+  at_first {c = c} q e o = record {
+    a = o.a;
+    b = o.b;
+    standing = o.standing;
+    low_is = o.low_is;
+    least = subst (λ (t : Still). Least (StillAttains t) 0 1 (total (corner_at c) (count_of t))) (sym (o.still_is ∙ q))
+        (subst (λ (P : Pair). Least (StillAttains s) 0 1 P)
+        (sym (total_same (corner_at c) (pair_at first) (count_of s) (λ i l. ap pair_in (o.present i (subst (λ (t : Still). i < count_of t) (sym q) l))))) e.least);
+  }
 
 -- entries of equal numbers are equal
 entries_same : (x y : List ℕ) (k : ℕ) → ((j : ℕ) → j < 3 * k → get_or x j 0 ≡ get_or y j 0) → entries x k ≡ entries y k
@@ -35,82 +84,46 @@ entries_same x y (suc k) h =
     let e : entry x k ≡ entry y k = pair_path (entry x k) (entry y k) (h (3 * k) (omega arith)) (h (3 * k + 1) (omega arith)) in
     cc
 
-module _ {B : ℕ → Block} {n : ℕ} where
-  pub from_first : ((i : ℕ) → i < n → Limits (B i)) → {cb ce ck gb ge gk : List ℕ} → Winners B n 1 most_on_bits cb ce ck → Winners B n 1 0 gb ge gk
-      → n ≤ length cb → n ≤ length ce → n ≤ length ck → n ≤ length gb → n ≤ length ge → n ≤ length gk → FromFirst B n cb ce ck gb ge gk
-  from_first limits {cb} {ce} w v a b c d e f = record {
-    ends = record {
-      high = most_on_bits;
-      above = omega arith;
-      from = w;
-      to = v;
-      bits_long = a;
-      error_long = b;
-      keep_long = c;
-      goal_bits_long = d;
-      goal_error_long = e;
-      goal_keep_long = f;
-    };
-    least = dearest_fewest (λ i. Attained (B i)) n most_on_bits (pair_at cb ce) (λ i l X x. omega (arith, attained_error (B i) (limits i l) x))
-        (λ i l. gives_wins (B i) (w.gives i l));
-  }
+-- the first m numbers of one list, and the rest of another
+module _ (m : ℕ) (seen list : List ℕ) (in_seen : m ≤ length seen) (in_list : m ≤ length list) where
+  abbrev copied : List ℕ
+  copied = take m seen ++ drop m list
 
-  pub all_codable : {a b : ℕ} {cb ce ck : List ℕ} → Winners B n a b cb ce ck → (i : ℕ) → i < n → HasChoice (B i)
-  all_codable w i l = let g = w.gives i l in record { choice = g.choice; codable = g.best.allowed }
+  copied_long : length copied ≡ length list
+  copied_long = grind (arith, length-append, length-take-le, length-drop)
 
-  pub found_none : {before after : List ℕ} {r : Found} {i : ℕ} → Finds B n before r after → r ≡ found.Uncodable i → FirstUncodable B n i
-  found_none {i = i} (uncodable j u e p) f = let k : j ≡ i = cc in rw k at u
-  found_none (corners c a w e) f = let z : ◌≡◌ {A = ℕ} 0 1 = cc in absurd (omega arith)
+  copied_first : (k : ℕ) → k < m → get_or copied k 0 ≡ get_or seen k 0
+  copied_first k h = get_or-append (take m seen) (drop m list) 0 k (omega (arith, length-take-le m seen in_seen)) ∙ get_or-take m seen k 0 h
 
-  pub found_all : {before after : List ℕ} {r : Found} {c : ℕ} → Finds B n before r after → r ≡ found.Corners c → ((i : ℕ) → i < n → HasChoice (B i)) × Walked B n before c after
-  found_all (uncodable j u e p) f = let z : ◌≡◌ {A = ℕ} 0 1 = cc in absurd (omega arith)
-  found_all {c = c} (corners d a w e) f = let k : d ≡ c = cc in (a, rw k at w)
+  copied_behind : (k : ℕ) → m ≤ k → get_or copied k 0 ≡ get_or list k 0
+  copied_behind k h =
+      let e : m + (k - m) ≡ k = omega arith in
+      get_or-append_right (take m seen) (drop m list) m k 0 (length-take-le m seen in_seen) h ∙ get_or-drop m list (k - m) 0 ∙ ap (λ (j : ℕ). get_or list j 0) e
 
-  pub too_short : {seen seen' list : List ℕ} {c : ℕ} {r : CornersAnswer} → ((i : ℕ) → i < n → HasChoice (B i)) → Walked B n seen c seen' → length list / 3 < c
-      → said_corners r ≡ refused 8 c 0 → Lists B n list r list
-  too_short {list = list} {c = c} a w h s = short a w.list w.corners (omega (arith, w.size, h)) (rw w.size s) refl
+module _ {B : ℕ → Block} {n : ℕ} (all : (i : ℕ) → i < n → HasChoice (B i)) {seen seen' list : List ℕ} {c : ℕ} (w : Walked B n seen c seen') where
+  pub too_short : {r : Result ℕ Refusal} → length list / 3 < c → said_corners r ≡ refused 8 c 0 → Lists B n list r list
+  too_short h s = short all w.list w.corners (omega (arith, w.size, h)) (rw w.size s) refl
 
-  -- all corners are written where there is room for all
-  held_all : {L : List Pair} {x y : List ℕ} (w : Written B n L x y) → 3 * length L ≤ length y → w.held ≡ length L
-  held_all {L} w h = go (dec_le (length L) w.held)
-    where
-      go : Dec (length L ≤ w.held) → w.held ≡ length L
-      go (yes l) = omega (arith, w.some)
-      go (no l) = absurd (omega (arith, w.full (omega arith)))
-
-  all_pairs : {L : List Pair} {x y : List ℕ} (w : Written B n L x y) → 3 * length L ≤ length y → entries y (length L) ≡ L
-  all_pairs {L} {x} {y} w h =
-      let e = held_all w h in
-      ap (entries y) (sym e) ∙ w.pairs ∙ ap (λ (k : ℕ). take k L) e ∙ take-length L
-
-  pub stored_seen : {seen seen' list after : List ℕ} {c : ℕ} {r : CornersAnswer} → ((i : ℕ) → i < n → HasChoice (B i)) → Walked B n seen c seen' → 3 * c ≤ length seen → c ≤ length list / 3
-      → length after ≡ length list → ((k : ℕ) → k < 3 * c → get_or after k 0 ≡ get_or seen' k 0) → ((k : ℕ) → 3 * c ≤ k → get_or after k 0 ≡ get_or list k 0)
-      → said_corners r ≡ corners c → Lists B n list r after
-  stored_seen {seen} {seen'} {list} {after} {c} all w room enough long copied behind s =
-      let h : 3 * length w.list ≤ length seen' = omega (arith, w.size, w.written.long) in
-      let e = held_all w.written h in
-      lists all w.list w.corners (omega (arith, w.size, enough)) (rw w.size s) (record {
-        count = long;
-        pairs = entries_same after seen' (length w.list) (λ j l. copied j (omega (arith, w.size))) ∙ all_pairs w.written h;
-        kept = λ k l.
-            let m : k < c = omega (arith, w.size) in
-            let p : entry after k ≡ entry seen' k = pair_path (entry after k) (entry seen' k) (copied (3 * k) (omega arith)) (copied (3 * k + 1) (omega arith)) in
-            rw (p, copied (3 * k + 2) (omega arith)) (w.written.kept k (omega (arith, e)));
-        behind = λ j l. behind j (omega (arith, w.size));
+  pub stored_seen : {r : Result ℕ Refusal} → 3 * c ≤ length seen → c ≤ length list / 3 → said_corners r ≡ corners c
+      → Lists B n list r (take (3 * c) seen' ++ drop (3 * c) list)
+  stored_seen room enough s =
+      let fits : 3 * length w.list ≤ length seen = omega (arith, w.size) in
+      let in_seen : 3 * c ≤ length seen' = omega (arith, w.written.long) in
+      let in_list : 3 * c ≤ length list = omega arith in
+      let first = copied_first (3 * c) seen' list in_seen in_list in
+      lists all w.list w.corners (omega (arith, w.size)) (rw w.size s) (record {
+        count = copied_long (3 * c) seen' list in_seen in_list;
+        pairs = entries_same (take (3 * c) seen' ++ drop (3 * c) list) seen' (length w.list) (λ j l. first j (omega (arith, w.size))) ∙ all_pairs w.written fits;
+        kept = λ k l. rw (first (3 * k) (omega (arith, w.size)), first (3 * k + 1) (omega (arith, w.size)), first (3 * k + 2) (omega (arith, w.size)))
+            (all_kept w.written fits k l);
+        behind = λ j l. copied_behind (3 * c) seen' list in_seen in_list j (omega (arith, w.size));
       })
 
   -- walked again, into the list itself
-  pub stored_again : {seen seen' list after : List ℕ} {c : ℕ} {r : CornersAnswer} {f : Found} → ((i : ℕ) → i < n → HasChoice (B i)) → Walked B n seen c seen' → c ≤ length list / 3
-      → Finds B n list f after → said_corners r ≡ corners c → Lists B n list r after
-  stored_again all w enough (uncodable i u e p) s = let h = all i u.within in absurd (u.none h.choice h.codable)
-  stored_again {list = list} {after = after} {c = c} all w enough (corners d a v e) s =
-      let k = list_unique w.corners v.corners in
-      let m : length v.list ≡ c = ap length (sym k) ∙ w.size in
-      let h : 3 * length v.list ≤ length after = omega (arith, m, enough, v.written.long) in
-      let q = held_all v.written h in
-      lists all v.list v.corners (omega (arith, m, enough)) (rw m s) (record {
-        count = v.written.long;
-        pairs = all_pairs v.written h;
-        kept = λ j l. v.written.kept j (omega (arith, q));
-        behind = λ j l. v.written.behind j (omega (arith, q));
-      })
+  pub stored_again : {after : List ℕ} {d : ℕ} {r : Result ℕ Refusal} → c ≤ length list / 3 → Walked B n list d after → said_corners r ≡ corners c
+      → Lists B n list r after
+  stored_again {after} enough v s =
+      let same : length v.list ≡ c = ap length (list_unique v.corners w.corners) ∙ w.size in
+      let fits : 3 * length v.list ≤ length list = omega (arith, same) in
+      lists all v.list v.corners fits (rw same s)
+      (record { count = v.written.long; pairs = all_pairs v.written fits; kept = all_kept v.written fits; behind = all_behind v.written fits })

@@ -18,7 +18,8 @@ use Rattle.corners.proofs.Unique.{list_unique}
 use Rattle.attained.specs.Attained.{Attained}
 use Rattle.attained.specs.Uncodable.{HasChoice, FirstUncodable}
 use Rattle.attained.proofs.Uncodable.{uncodable_unique}
-use Rattle.answers.specs.declared.CornersAnswer.{CornersAnswer}
+use Rattle.std.specs.Prelude.{Result}
+use Rattle.answers.specs.declared.Refusal.{Refusal}
 use Rattle.answers.proofs.Same.{corners_same}
 use Rattle.settled.proofs.OneChoice.{kept_unique}
 use Rattle.list_job.specs.ListJob.{Stored, Lists, uncodable, short, lists, ListMeets, refuses, answers}
@@ -44,7 +45,8 @@ entries_at out (suc m) k h = go (ℕ_discrete k m) (entries_at out m k)
 entry_is : (x y : List ℕ) (m k : ℕ) → k < m → entries x m ≡ entries y m → entry x k ≡ entry y k
 entry_is x y m k h e = sym (entries_at x m k h) ∙ ap (λ (l : List Pair). get_or l k none) e ∙ entries_at y m k h
 
-entry_member : (out : List ℕ) (m k : ℕ) → k < m → Memᴰ (entry out k) (entries out m)
+-- an entry is one of the list's pairs
+pub entry_member : (out : List ℕ) (m k : ℕ) → k < m → Memᴰ (entry out k) (entries out m)
 entry_member out zero k h = absurd (omega arith)
 entry_member out (suc m) k h = go (ℕ_discrete k m) (entry_member out m k)
   where
@@ -87,7 +89,7 @@ module _ {B : ℕ → Block} {n : ℕ} where
   codable : {i : ℕ} → ((i : ℕ) → i < n → HasChoice (B i)) → FirstUncodable B n i → ⊥
   codable {i} all u = let h = all i u.within in u.none h.choice h.codable
 
-  lists_unique : {before x y : List ℕ} {r s : CornersAnswer} → Lists B n before r x → Lists B n before s y → (r ≡ s) × (x ≡ y)
+  lists_unique : {before x y : List ℕ} {r s : Result ℕ Refusal} → Lists B n before r x → Lists B n before s y → (r ≡ s) × (x ≡ y)
   lists_unique {r = r} {s = s} (uncodable i u p q) (uncodable j v o k) = let e = uncodable_unique u v in (corners_same r s (cc), cc)
   lists_unique (uncodable i u p q) (short a L C h o k) = absurd (codable a u)
   lists_unique (uncodable i u p q) (lists a L C h o t) = absurd (codable a u)
@@ -100,7 +102,7 @@ module _ {B : ℕ → Block} {n : ℕ} where
       let e = list_unique C D in
       (corners_same r s (cc), stored_unique C t (rw (sym e) at u))
 
-pub unique : {levels : List ℤ} {steps lengths : List ℕ} {before x y : List ℕ} {r s : CornersAnswer}
+pub unique : {levels : List ℤ} {steps lengths : List ℕ} {before x y : List ℕ} {r s : Result ℕ Refusal}
     → ListMeets levels steps lengths before r x → ListMeets levels steps lengths before s y → (r ≡ s) × (x ≡ y)
 unique {r = r} {s = s} (refuses n d e v p q) (refuses m f g w o k) = (corners_same r s (cc), cc)
 unique {r = r} {s = s} (refuses n d e v p q) (answers w t) = (corners_same r s (cc), cc)

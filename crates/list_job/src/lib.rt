@@ -1,187 +1,81 @@
-// The list job: all the still's corners, or a refusal that stores nothing.
-
+//! The list job: all the corners of a still, or a refusal that stores nothing.
 #![tactic(auto)]
 
-ghost use Rattle.std.specs.Prelude.{◌≡◌, ◌/◌, length};
-ghost use Rattle.attained.specs.Attained.{block_at};
-ghost use Rattle.answers.specs.Said.{number_of, said_corners, refused as saidRefused};
-ghost use Rattle.still.specs.Sound.{Sound};
+ghost use Rattle.std.specs.Prelude.{◌≡◌, length, IfErr, OnOk};
+ghost use Rattle.attained.specs.Uncodable.{FirstUncodable};
+ghost use Rattle.still.specs.Blocks.{count_of, block_in};
 ghost use Rattle.walk.specs.Written.{Walked};
 ghost use Rattle.list_job.specs.ListJob.{Lists, ListMeets};
-ghost use Rattle.list_job.specs.Listing.{FromFirst, Finds};
+ghost use Rattle.list_job.specs.Listing.{AreEnds};
 
-use answers::{Checked, CornersAnswer, Kind, Refusal};
+use answers::{Kind, Refusal};
+use forward::Chosen;
+use merge::Course;
 use price::Price;
-use winners::Outcome;
+use search::Search;
+use still::{Still, check_list};
+use walk::list_corners;
+use winners::{Uncodable, winners};
 
-// How many corners are remembered while they are counted; a longer list is walked twice.
+// How many corners are remembered while they are counted, in an array, since the library has no heap; a longer list is walked
+// twice.
 const REMEMBERED: usize = 4096;
 
-// The number of corners, or the first block without a codable choice.
-#[derive(Clone, Copy)]
-pub enum Found {
-    Corners(usize),
-    Uncodable(usize),
+// The blocks' best choices at the price at which bits are dearest, with which the still is at its first corner, and at the one
+// at which they are free, with which it is at its last.
+fn find_ends(still: Still, first: &mut [Chosen], last: &mut [Chosen]) -> Result<(), Uncodable>
+    requires counts { (length first.old ≡ count_of still) × (length last.old ≡ count_of still) }
+    ensures ends { OnOk result (AreEnds still.entry first.new last.new) }
+    ensures uncodable { IfErr result (λ u. FirstUncodable (block_in still.entry) (count_of still.entry) u.block) }
+{
+    let mut search = Search::new(still);
+    winners(&mut search, Price::DEAREST, first)?;
+    winners(&mut search, Price::FREE, last)?;
+    Ok(())
 }
 
-fn refused(kind: Kind, first: u64) -> CornersAnswer
-    ensures { said_corners result ≡ saidRefused (number_of kind) first 0 }
+// Walks from the first corner to the last. It is called twice, and not inlined, so that its course takes its room but once.
+#[inline(never)]
+fn walk_all(still: Still, first: &[Chosen], last: &[Chosen], out: &mut [u64]) -> usize
+    requires { AreEnds still first.now last.now }
+    ensures { Walked (block_in still.entry) (count_of still.entry) out.old result out.new }
 {
-    CornersAnswer::Refused(Refusal {
-        kind,
-        first,
-        second: 0,
-    })
-}
-
-// From the blocks' first corners to their last.
-fn walk_all(
-    levels: &[i16],
-    steps: &[u8],
-    lengths: &[u8],
-    cb: &mut [u64],
-    ce: &mut [u64],
-    ck: &mut [u64],
-    gb: &[u64],
-    ge: &[u64],
-    gk: &[u64],
-    out: &mut [u64],
-) -> usize
-    requires still { Sound levels.now steps.now lengths.now (length levels.now / 64) }
-    requires ends { FromFirst (block_at levels.now steps.now lengths.now) (length levels.now / 64) cb.old ce.old ck.old gb.now ge.now gk.now }
-    ensures { Walked (block_at levels.now steps.now lengths.now) (length levels.now / 64) out.old result out.new }
-{
-    let mut table = [0u64; 704];
-    let full = search::bit_table(lengths, &mut table);
-    let mut place = [0usize; 64];
-    let mut size = [0usize; 64];
-    let mut drop = [0u64; 64];
-    let mut cost = [0u64; 64];
-    let mut sum = [0u64; 64];
-    let mut pred = [0usize; 64];
-    let mut run = [0u64; 1024];
-    let mut fall = [0u64; 1024];
-    let mut height = [0usize; 1024];
-    let mut far = [0u64; 24576];
-    let mut tree = [0usize; 2048];
-    let n = levels.len() / 64;
-    let p = merge::set_out(
-        levels,
-        steps,
-        lengths,
-        full,
-        &table,
-        &mut place,
-        &mut size,
-        &mut drop,
-        &mut cost,
-        &mut sum,
-        &mut pred,
-        n,
-        0,
-        cb,
-        ce,
-        ck,
-        gb,
-        ge,
-        gk,
-        &mut run,
-        &mut fall,
-        &mut height,
-        &mut far,
-        &mut tree,
-    );
-    walk::list_corners(
-        levels,
-        steps,
-        lengths,
-        full,
-        &table,
-        &mut place,
-        &mut size,
-        &mut drop,
-        &mut cost,
-        &mut sum,
-        &mut pred,
-        n,
-        cb,
-        ce,
-        ck,
-        &mut run,
-        &mut fall,
-        &mut height,
-        &mut far,
-        &mut tree,
-        p,
-        out,
-    )
-}
-
-// Lists the corners in `out` as far as there is room.
-fn find_corners(levels: &[i16], steps: &[u8], lengths: &[u8], out: &mut [u64]) -> Found
-    requires still { Sound levels.now steps.now lengths.now (length levels.now / 64) }
-    ensures { Finds (block_at levels.now steps.now lengths.now) (length levels.now / 64) out.old result out.new }
-{
-    let mut cb = [0u64; 1024];
-    let mut ce = [0u64; 1024];
-    let mut ck = [0u64; 1024];
-    if let Outcome::Uncodable(i) = winners::winners(
-        levels,
-        steps,
-        lengths,
-        Price::DEAREST,
-        &mut cb,
-        &mut ce,
-        &mut ck,
-    ) {
-        return Found::Uncodable(i);
-    }
-    let mut gb = [0u64; 1024];
-    let mut ge = [0u64; 1024];
-    let mut gk = [0u64; 1024];
-    if let Outcome::Uncodable(i) = winners::winners(
-        levels,
-        steps,
-        lengths,
-        Price::FREE,
-        &mut gb,
-        &mut ge,
-        &mut gk,
-    ) {
-        return Found::Uncodable(i);
-    }
-    Found::Corners(walk_all(
-        levels, steps, lengths, &mut cb, &mut ce, &mut ck, &gb, &ge, &gk, out,
-    ))
+    let mut course = Course::new(Search::new(still));
+    course.set_out(0, first, last);
+    list_corners(&mut course, out)
 }
 
 // Nothing is stored before the corners are counted.
-fn list_still(levels: &[i16], steps: &[u8], lengths: &[u8], list: &mut [u64]) -> CornersAnswer
-    requires still { Sound levels.now steps.now lengths.now (length levels.now / 64) }
-    ensures { Lists (block_at levels.now steps.now lengths.now) (length levels.now / 64) list.old result list.new }
+fn list_still(still: Still, list: &mut [u64]) -> Result<usize, Refusal>
+    ensures { Lists (block_in still.entry) (count_of still.entry) list.old result list.new }
 {
-    let mut seen = [0u64; 12288];
-    match find_corners(levels, steps, lengths, &mut seen) {
-        Found::Uncodable(i) => refused(Kind::Uncodable, i as u64),
-        Found::Corners(n) => {
-            if list.len() / 3 < n {
-                return refused(Kind::Corners, n as u64);
-            }
-            if n <= REMEMBERED {
-                copy::copy_first(&seen, 3 * n, list);
-                return CornersAnswer::Corners(n as u64);
-            }
-            find_corners(levels, steps, lengths, list);
-            CornersAnswer::Corners(n as u64)
-        }
+    let n = still.len();
+    let mut first = [Chosen::NONE; 1024];
+    let mut last = [Chosen::NONE; 1024];
+    find_ends(still, &mut first[..n], &mut last[..n])?;
+    let mut seen = [0; 3 * REMEMBERED];
+    let count = walk_all(still, &first[..n], &last[..n], &mut seen);
+    if list.len() / 3 < count {
+        return Err(Refusal::new(Kind::Corners, count as u64));
     }
+    if count <= REMEMBERED {
+        list[..3 * count].copy_from_slice(&seen[..3 * count]);
+    } else {
+        walk_all(still, &first[..n], &last[..n], list);
+    }
+    Ok(count)
 }
 
-pub fn list(levels: &[i16], steps: &[u8], lengths: &[u8], list: &mut [u64]) -> CornersAnswer
+/// Lists the corners of a still in rising bits, three numbers each, and returns how many they are. Behind them the list stays as
+/// it was, and on a refusal all of it does.
+pub fn list(
+    levels: &[i16],
+    steps: &[u8],
+    lengths: &[u8],
+    list: &mut [u64],
+) -> Result<usize, Refusal>
     ensures { ListMeets levels.now steps.now lengths.now list.old result list.new }
 {
-    match still::check_list(levels, steps, lengths, list.len()) {
-        Checked::Refused(r) => CornersAnswer::Refused(r),
-        Checked::Fine => list_still(levels, steps, lengths, list),
-    }
+    let still = check_list(levels, steps, lengths, list.len())?;
+    list_still(still, list)
 }

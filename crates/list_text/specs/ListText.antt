@@ -1,6 +1,6 @@
 -- What the list program prints for a packet, and how it stands in the bytes that are lent for it.
-use Rattle.std.specs.Prelude.{◌≡◌, List, [], ℕ, ◌*◌, replicate}
-use Rattle.answers.specs.declared.CornersAnswer.{CornersAnswer}
+use Rattle.std.specs.Prelude.{◌≡◌, Result, List, [], ℕ, ◌*◌, replicate}
+use Rattle.answers.specs.declared.Refusal.{Refusal}
 use Rattle.answers.specs.Said.{Said, point, corners, kept, refused, fine, refuse, said_corners}
 use Rattle.list_job.specs.ListJob.{ListMeets}
 use Rattle.packet.specs.Packet.{packet_verdict, packed_levels, packed_steps, packed_lengths}
@@ -20,7 +20,7 @@ said_text (kept n) list = []
 -- the text for a packet: its own refusal, or what the list job says of what it holds, with room for the most corners
 pub data Prints (packet text : List ℕ) : Type 0 where
   refuses : (number first second : ℕ) → packet_verdict packet ≡ refuse number first second → text ≡ refused_text number first second → Prints packet text
-  tells : packet_verdict packet ≡ fine → (answer : CornersAnswer) (list : List ℕ)
+  tells : packet_verdict packet ≡ fine → (answer : Result ℕ Refusal) (list : List ℕ)
       → ListMeets (packed_levels packet) (packed_steps packet) (packed_lengths packet) (replicate (3 * most_listed) 0) answer list
       → text ≡ said_text (said_corners answer) list → Prints packet text
 

@@ -1,10 +1,7 @@
-pub mod Store
-pub mod Slots
-pub mod Finding
-pub mod Totals
-pub mod Moving
 pub mod Station
-pub mod SettingOut
-pub mod Adding
+pub mod Going
+pub mod Played
+pub mod Totals
 pub mod Pass
-pub mod Advancing
+pub mod Moving
+pub mod SettingOut

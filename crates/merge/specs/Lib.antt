@@ -1,6 +1,6 @@
 pub mod CornerChoice
+pub mod Station
 pub mod Standing
-pub mod Finding
-pub mod Taking
+pub mod Going
 pub mod Passing
 pub mod SettingOut

@@ -1,103 +1,66 @@
--- For the functions of the merge, and not for a reader of the promises: where the still's blocks stand.
-use Rattle.std.specs.Prelude.{◌≡◌, List, length, get_or, take, drop, ℕ, ◌*◌, ◌-◌, ◌≤◌, ◌<◌}
-use Rattle.block.specs.Block.{Block}
+-- For the functions of the merge, and not for a reader of the promises: where all blocks of a course stand, and what they come to.
+use Rattle.std.specs.Prelude.{◌≡◌, ℕ, ◌*◌, ◌≤◌, ◌<◌, [], length, take, slice_index, slice_index_or}
+use Rattle.std.proofs.Common.{zero-le, suc-le-suc}
 use Rattle.corners.specs.Pair.{Pair}
 use Rattle.corners.specs.Price.{Wins}
 use Rattle.corners.specs.Still.{total}
-use Rattle.corners.specs.Listed.{entry}
-use Rattle.corners.specs.Merging.{ahead, Way, Stands}
-use Rattle.attained.specs.Attained.{Attained, Smallest}
+use Rattle.attained.specs.Attained.{Attained}
+use Rattle.attained.specs.Chosen.{none}
+use Rattle.forward.specs.declared.Chosen.{Chosen}
 use Rattle.kept.specs.Kept.{kept_to}
-use Rattle.answers.specs.declared.Point.{Point}
-use Rattle.winners.specs.Winners.{pair_at}
-use Rattle.ways.specs.Known.{Known}
-use Rattle.steepest.specs.Tree.{Tree}
+use Rattle.still.specs.Blocks.{count_of, block_in}
+use Rattle.steepest.specs.declared.way.Way.{Way}
+use Rattle.steepest.specs.Ways.{WayAsSteep}
+use Rattle.steepest.specs.Tournament.{IsTournament}
+use Rattle.ways.specs.declared.Route.{Route}
+use Rattle.merge.specs.declared.Course.{Course}
+use Rattle.merge.specs.Station.{Station, corner, Stationed}
 
--- What the merge holds of one block: its present corner and keep number, the run and the fall of its way on,
--- how many corners are known ahead and their numbers.
-pub record Station : Type 0 where
-  pub corner : Pair
-  pub keep : ℕ
-  pub run : ℕ
-  pub fall : ℕ
-  pub height : ℕ
-  pub far : List ℕ
+-- the route and the way of no block
+abbrev pub no_route : Route
+no_route = record { present = none; known = []; height = 0 }
 
--- The arrays that hold it for every block: one number a block, and 24 of the corners known ahead.
-pub record Arrays : Type 0 where
-  pub cb : List ℕ
-  pub ce : List ℕ
-  pub ck : List ℕ
-  pub run : List ℕ
-  pub fall : List ℕ
-  pub height : List ℕ
-  pub far : List ℕ
+abbrev pub no_way : Way
+no_way = record { run = 1; fall = 0; some_run = suc-le-suc zero-le; run_high = suc-le-suc zero-le; fall_high = zero-le }
 
-abbrev pub arrays : (cb ce ck run fall height far : List ℕ) → Arrays
-arrays cb ce ck run fall height far = record { cb = cb; ce = ce; ck = ck; run = run; fall = fall; height = height; far = far }
+-- block i's station
+abbrev pub at : Course → ℕ → Station
+at c i = record { route = slice_index_or c.routes i no_route; way = slice_index_or c.ways i no_way }
 
-abbrev pub slot : List ℕ → ℕ → List ℕ
-slot far i = take 24 (drop (24 * i) far)
+abbrev pub present_at : Course → ℕ → Chosen
+present_at c i = (at c i).route.present
 
-abbrev pub at : Arrays → ℕ → Station
-at S i = record {
-  corner = pair_at S.cb S.ce i;
-  keep = get_or S.ck i 0;
-  run = get_or S.run i 0;
-  fall = get_or S.fall i 0;
-  height = get_or S.height i 0;
-  far = slot S.far i;
-}
+abbrev pub corner_at : Course → ℕ → Pair
+corner_at c i = corner (at c i)
 
-pub record Long (n : ℕ) (S : Arrays) : Type 0 where
-  pub cb : n ≤ length S.cb
-  pub ce : n ≤ length S.ce
-  pub ck : n ≤ length S.ck
-  pub run : n ≤ length S.run
-  pub fall : n ≤ length S.fall
-  pub height : n ≤ length S.height
-  pub far : 24 * n ≤ length S.far
+-- The tournament of the blocks' ways is played, and the steepest wins.
+pub record IsPlayed (c : Course) : Type 0 where
+  pub tournament : IsTournament WayAsSteep (take (count_of c.search.still) c.ways) c.seats
+  pub within : count_of c.search.still ≤ length c.ways
 
-pub record AsLong (S S' : Arrays) : Type 0 where
-  pub cb : length S'.cb ≡ length S.cb
-  pub ce : length S'.ce ≡ length S.ce
-  pub ck : length S'.ck ≡ length S.ck
-  pub run : length S'.run ≡ length S.run
-  pub fall : length S'.fall ≡ length S.fall
-  pub height : length S'.height ≡ length S.height
-  pub far : length S'.far ≡ length S.far
+-- the block at the root of the tournament, and its way on
+abbrev pub top_of : Course → ℕ
+top_of c = slice_index c.seats 1
 
--- The way on leads to the top one of the corners known ahead.
-pub record OnWay (B : Block) (s : Station) : Type 0 where
-  pub known : Known B s.corner s.height s.far
-  pub way : Way (Attained B) s.corner s.run s.fall
-  pub top : entry s.far (s.height - 1) ≡ ahead s.corner s.run s.fall
+abbrev pub steepest_of : Course → Way
+steepest_of c = (at c (top_of c)).way
 
--- A block has reached its goal `H`, and (1, low) stands for its way; or the goal is the farthest of the corners known ahead.
-pub data Heads (B : Block) (low : ℕ) (H : Pair) (s : Station) : Type 0 where
-  arrived : s.corner ≡ H → s.run ≡ 1 → s.fall ≡ low → s.height ≡ 0 → Heads B low H s
-  going : OnWay B s → entry s.far 0 ≡ H → Heads B low H s
+-- The course's point is the bits, the error and the kept coefficients of all blocks together.
+pub record Together (c : Course) : Type 0 where
+  pub bits : c.point.bits.0 ≡ (total (corner_at c) (count_of c.search.still)).bits
+  pub error : c.point.error.0 ≡ (total (corner_at c) (count_of c.search.still)).error
+  pub kept : c.point.kept ≡ kept_to (λ i. (present_at c i).keep) (count_of c.search.still)
 
--- A block stands where the price (a, b) has led it.
-pub record Stationed (B : Block) (low : ℕ) (H : Pair) (a b : ℕ) (s : Station) : Type 0 where
-  pub stands : Stands (Attained B) a b s.corner s.run s.fall
-  pub keep : Smallest B s.corner s.keep
-  pub heads : Heads B low H s
-
--- Every block does; its goal is its winner at (1, low).
-pub record Standing (B : ℕ → Block) (n low a b : ℕ) (S : Arrays) (tree : List ℕ) : Type 0 where
+-- Every block stands where the price (a, b) has led it; its goal is its winner at (1, low).
+pub record Standing (c : Course) (a b : ℕ) : Type 0 where
   pub goal : ℕ → Pair
-  pub wins : (i : ℕ) → i < n → Wins (Attained (B i)) 1 low (goal i)
-  pub each : (i : ℕ) → i < n → Stationed (B i) low (goal i) a b (at S i)
-  pub above : a * low < b
-  pub tournament : Tree S.run S.fall n tree
-  pub long : Long n S
+  pub wins : (i : ℕ) → i < count_of c.search.still → Wins (Attained (block_in c.search.still i)) 1 c.low (goal i)
+  pub each : (i : ℕ) → i < count_of c.search.still → Stationed (block_in c.search.still i) c.low (goal i) a b (at c i)
+  pub above : a * c.low < b
+  pub played : IsPlayed c
+  pub together : Together c
 
-abbrev pub corner_at : Arrays → ℕ → Pair
-corner_at S i = (at S i).corner
-
--- The bits, the error and the kept coefficients of all blocks together.
-pub record Sums (n : ℕ) (cb ce ck : List ℕ) (p : Point) : Type 0 where
-  pub bits : p.bits.0 ≡ (total (pair_at cb ce) n).bits
-  pub error : p.error.0 ≡ (total (pair_at cb ce) n).error
-  pub kept : p.kept ≡ kept_to (λ i. get_or ck i 0) n
+-- It is a course of the same still, to the same price.
+pub record Same (c c' : Course) : Type 0 where
+  pub still : c'.search.still ≡ c.search.still
+  pub low : c'.low ≡ c.low

@@ -3,7 +3,7 @@
 use mathlib.Core.Path.{◌≡◌, sym, ap, ap₂, ◌∙◌}
 use mathlib.Core.List.{List}
 use Prim.Native.Nat.{ℕ, zero, suc, ◌+◌, ◌-◌, ◌*◌, ◌/◌, ◌%◌, ◌^◌, ◌≤◌, ◌<◌}
-use native.Mathlib.Nat.{mod-one, mod-lt, mod-eq_of_lt, pow-suc}
+use native.Mathlib.Nat.{mod-one, mod-eq_of_lt}
 use native.Mathlib.Numerals.{add-one}
 use native.Mathlib.Decide.{dec_le}
 use native.Mathlib.Omega.{arith}
@@ -65,10 +65,3 @@ module _ (bytes : List ℕ) (known : (i : ℕ) → Fits w8 (get_or bytes i 0)) w
       let r : 16 - (at % 8 + 8) ≡ 8 = omega arith in
       let m : window k / 2 ^ 8 % 2 ^ 8 ≡ field bytes at 8 = rw (p, r) at (window_is_field at 8 (omega arith)) in
       sym (ap (λ (x : ℕ). x % 256) (pow.high (get_or bytes k 0) 8 (known (k + 1)).fits) ∙ mod-eq_of_lt (known k).fits) ∙ m
-
--- a field is below the power of its width
-pub field_below : (bytes : List ℕ) (at w : ℕ) → field bytes at w < 2 ^ w
-unfolding field bit_of
-field_below bytes at zero = omega arith
-field_below bytes at (suc w) =
-    rw pow-suc (omega (arith, field_below bytes at w, mod-lt (get_or bytes ((at + w) / 8) 0 / 2 ^ (7 - (at + w) % 8)) {m = 2} (omega arith)))

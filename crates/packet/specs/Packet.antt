@@ -1,5 +1,5 @@
 -- A packed still: its bit fields, the levels, steps and lengths that they hold, and when it is refused.
-use Rattle.std.specs.Prelude.{◌≡◌, Bool, ◌&&◌, List, [], ◌∷◌, map, ℕ, zero, suc, ◌+◌, ◌-◌, ◌*◌, ◌/◌, ◌%◌, ◌^◌, eqb, ltb, leb, ℤ, pos, ◌-ℤ◌, length, get_or}
+use Rattle.std.specs.Prelude.{Bool, ◌&&◌, List, [], ◌∷◌, map, ℕ, zero, suc, ◌+◌, ◌-◌, ◌*◌, ◌/◌, ◌%◌, ◌^◌, eqb, ltb, leb, ℤ, pos, ◌-ℤ◌, length, get_or}
 use Rattle.block.specs.First.{pick}
 use Rattle.answers.specs.Said.{Verdict, fine, refuse}
 
@@ -52,16 +52,3 @@ well_packed packet = leb 2 (length packet) && eqb (packed_version packet) 1 && e
 
 unfoldable pub packet_verdict : List ℕ → Verdict
 packet_verdict packet = pick (well_packed packet) fine (refuse 11 (length packet) 0)
-
--- a packet that is not refused, with room for just what it holds
-pub record Room (packet : List ℕ) (levels : List ℤ) (steps lengths : List ℕ) : Type 0 where
-  pub well : packet_verdict packet ≡ fine
-  pub levels_long : length levels ≡ 64 * packed_blocks packet
-  pub steps_long : length steps ≡ 64
-  pub lengths_long : length lengths ≡ 256
-
--- what the lent slices hold afterwards
-pub record Unpacked (packet : List ℕ) (levels : List ℤ) (steps lengths : List ℕ) : Type 0 where
-  pub levels_are : levels ≡ packed_levels packet
-  pub steps_are : steps ≡ packed_steps packet
-  pub lengths_are : lengths ≡ packed_lengths packet

@@ -1,12 +1,22 @@
-// A packed still into its levels, steps and lengths.
-
+//! A packed still: its levels, steps and lengths, read out of the packet's bits.
 #![tactic(auto)]
 
-ghost use Rattle.std.specs.Prelude.{◌≡◌, ◌+◌, ◌*◌, ◌/◌, ◌%◌, ◌≤◌, ◌<◌, pos, length, get_or};
-ghost use Rattle.answers.specs.Said.{fine, said_check};
-ghost use Rattle.packet.specs.Packet.{field, packet_verdict, packed_blocks, packed_steps, packed_lengths, packed_levels, twos_complement, Room, Unpacked};
+ghost use Rattle.std.specs.Prelude.{◌≡◌, ◌+◌, ◌*◌, ◌/◌, ◌%◌, ◌^◌, ◌≤◌, ◌<◌, true, pos, length, get_or, IfOk};
+ghost use Rattle.answers.specs.Said.{said_check};
+ghost use Rattle.packet.specs.Packet.{field, twos_complement, well_packed, packet_verdict, packed_blocks, packed_steps, packed_lengths, packed_levels};
 
-use answers::{Checked, Kind};
+use answers::{Kind, Refusal};
+
+/// The most blocks that a packet has.
+pub const MOST_BLOCKS: usize = 256;
+
+/// The most levels that a packet has.
+pub const MOST_LEVELS: usize = 64 * MOST_BLOCKS;
+
+/// The most bytes that a packet has.
+pub const MOST_BYTES: usize = 226 + 96 * MOST_BLOCKS;
+
+const VERSION: u8 = 1;
 
 // The first bit of the steps, of the lengths and of the levels.
 const STEPS_AT: usize = 8 + 8;
@@ -15,97 +25,89 @@ const LENGTHS_AT: usize = STEPS_AT + 64 * 8;
 
 const LEVELS_AT: usize = LENGTHS_AT + 256 * 5;
 
-// Whether the packet is of version 1 and as long as its own number of blocks asks for.
-pub fn check(packet: &[u8]) -> Checked
-    ensures { said_check result ≡ packet_verdict packet.now }
-{
-    let long = packet.len();
-    if long < 2 {
-        return answers::refused(Kind::Packet, long as u64, 0);
-    }
-    if packet[0] != 1 {
-        return answers::refused(Kind::Packet, long as u64, 0);
-    }
-    if long != 226 + 96 * blocks(packet) {
-        return answers::refused(Kind::Packet, long as u64, 0);
-    }
-    Checked::Fine
+/// A packet of version 1 that is as long as its own number of blocks asks for.
+#[derive(Clone, Copy)]
+pub struct Packet<'a> {
+    pub bytes: &'a [u8],
+    pub ghost well: { well_packed bytes.now ≡ true },
+    pub ghost long: { length bytes.now ≡ 226 + 96 * packed_blocks bytes.now },
 }
 
-// How many blocks the packet says it has.
-pub fn blocks(packet: &[u8]) -> usize
-    requires { 2 ≤ length packet.now }
-    ensures { result ≡ packed_blocks packet.now }
-{
-    packet[1] as usize + 1
+impl<'a> Packet<'a> {
+    /// Takes the bytes for a packet, or refuses them and tells their length.
+    pub fn check(bytes: &'a [u8]) -> Result<Packet<'a>, Refusal>
+        ensures told { said_check result ≡ packet_verdict bytes.now }
+        ensures same { IfOk result (λ p. p.bytes.now ≡ bytes.now) }
+    {
+        let long = bytes.len();
+        if long < 2 || bytes[0] != VERSION || long != 226 + 96 * blocks(bytes) {
+            return Err(Refusal::new(Kind::Packet, long as u64));
+        }
+        Ok(Packet { bytes })
+    }
+
+    /// How many blocks it has, 1 to 256.
+    pub fn blocks(&self) -> usize
+        ensures value { result ≡ packed_blocks self.now.bytes.now }
+        ensures most { result ≤ 256 }
+    {
+        blocks(self.bytes)
+    }
+
+    /// The 64 steps.
+    pub fn steps(&self) -> &'a [u8]
+        ensures { result.now ≡ packed_steps self.now.bytes.now }
+    {
+        steps(self.bytes)
+    }
+
+    /// The 256 lengths.
+    pub fn lengths(&self) -> [u8; 256]
+        ensures { result ≡ packed_lengths self.now.bytes.now }
+    {
+        let mut lengths = [0; 256];
+        for (i, length) in lengths.iter_mut().enumerate() {
+            *length = field(self.bytes, LENGTHS_AT + 5 * i, 5) as u8;
+        }
+        lengths
+    }
+
+    /// The levels, 64 for each block, put at the start of the room that is lent for them.
+    pub fn levels<'b>(&self, room: &'b mut [i16; MOST_LEVELS]) -> &'b [i16]
+        ensures { result.now ≡ packed_levels self.now.bytes.now }
+    {
+        let levels = &mut room[..64 * self.blocks()];
+        for (i, level) in levels.iter_mut().enumerate() {
+            *level = level_of(field(self.bytes, LEVELS_AT + 12 * i, 12));
+        }
+        levels
+    }
 }
 
-// Everything that the packet holds.
-pub fn unpack(packet: &[u8], levels: &mut [i16], steps: &mut [u8], lengths: &mut [u8])
-    requires { Room packet.now levels.old steps.old lengths.old }
-    ensures { Unpacked packet.now levels.new steps.new lengths.new }
+fn blocks(bytes: &[u8]) -> usize
+    requires { 2 ≤ length bytes.now }
+    ensures value { result ≡ packed_blocks bytes.now }
+    ensures most { result ≤ 256 }
 {
-    unpack_steps(packet, steps);
-    unpack_lengths(packet, lengths);
-    unpack_levels(packet, levels);
+    bytes[1] as usize + 1
 }
 
 // Steps are whole bytes.
-fn unpack_steps(packet: &[u8], steps: &mut [u8])
-    requires packet_value { packet_verdict packet.now ≡ fine }
-    requires steps_len { length steps.old ≡ 64 }
-    ensures { steps.new ≡ packed_steps packet.now }
+fn steps(bytes: &[u8]) -> &[u8]
+    requires { 66 ≤ length bytes.now }
+    ensures { result.now ≡ packed_steps bytes.now }
 {
-    let mut i = 0;
-    while i < 64 {
-        steps[i] = packet[STEPS_AT / 8 + i];
-        i += 1;
-    }
-}
-
-// Lengths run across the bytes.
-fn unpack_lengths(packet: &[u8], lengths: &mut [u8])
-    requires packet_value { packet_verdict packet.now ≡ fine }
-    requires lengths_len { length lengths.old ≡ 256 }
-    ensures { lengths.new ≡ packed_lengths packet.now }
-{
-    let mut i = 0;
-    while i < 256 {
-        lengths[i] = read_field(packet, LENGTHS_AT + 5 * i, 5) as u8;
-        i += 1;
-    }
-}
-
-// Two levels a turn: they fill three bytes, so that each is cut out of its bytes in a fixed way.
-fn unpack_levels(packet: &[u8], levels: &mut [i16])
-    requires packet_value { packet_verdict packet.now ≡ fine }
-    requires levels_len { length levels.old ≡ 64 * packed_blocks packet.now }
-    ensures { levels.new ≡ packed_levels packet.now }
-{
-    let pairs = levels.len() / 2;
-    let mut i = 0;
-    while i < pairs {
-        levels[2 * i] = read_level(packet, 2 * i);
-        levels[2 * i + 1] = read_level(packet, 2 * i + 1);
-        i += 1;
-    }
-}
-
-// Level i of the still.
-fn read_level(packet: &[u8], i: usize) -> i16
-    requires packet_value { packet_verdict packet.now ≡ fine }
-    requires i_bound { i < 64 * packed_blocks packet.now }
-    ensures { result ≡ get_or (packed_levels packet.now) i (pos 0) }
-{
-    level_of(read_field(packet, LEVELS_AT + 12 * i, 12))
+    &bytes[STEPS_AT / 8..LENGTHS_AT / 8]
 }
 
 // A field that lies within two bytes, cut out of them.
-fn read_field(packet: &[u8], at: usize, width: usize) -> u16
-    requires { (1 ≤ width) × (width ≤ 12) × (at % 8 + width ≤ 16) × (at / 8 + 1 < length packet.now) }
-    ensures { result ≡ field packet.now at width }
+fn field(bytes: &[u8], at: usize, width: usize) -> u16
+    requires narrow { (1 ≤ width) × (width ≤ 12) × (at % 8 + width ≤ 16) }
+    requires within { at / 8 + 1 < length bytes.now }
+    ensures value { result ≡ field bytes.now at width }
+    ensures below { result < 2 ^ width }
 {
-    let window = packet[at / 8] as u16 * 256 + packet[at / 8 + 1] as u16;
+    let window = u16::from_be_bytes([bytes[at / 8], bytes[at / 8 + 1]]);
     (window >> (16 - (at % 8 + width))) % (1u16 << width)
 }
 

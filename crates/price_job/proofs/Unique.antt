@@ -7,13 +7,15 @@ use native.Mathlib.Omega.{arith}
 use lib.IntN.{ℤ}
 use lib.ListN.{length}
 use lib.Seq.{ext_get_or}
+use Rattle.std.specs.Prelude.{Result}
 use Rattle.block.specs.Block.{Block}
 use Rattle.corners.specs.Pair.{Pair}
 use Rattle.corners.proofs.Sums.{total_same}
 use Rattle.attained.specs.Uncodable.{FirstUncodable}
 use Rattle.attained.proofs.Winning.{gives_unique}
 use Rattle.attained.proofs.Uncodable.{uncodable_unique}
-use Rattle.answers.specs.declared.PointAnswer.{PointAnswer}
+use Rattle.answers.specs.declared.Point.{Point}
+use Rattle.answers.specs.declared.Refusal.{Refusal}
 use Rattle.answers.proofs.Same.{point_same}
 use Rattle.still.proofs.Fine.{price_verdict_fine}
 use Rattle.price_job.specs.PriceJob.{Decided, Priced, uncodable, decides, PriceMeets, refuses, prices}
@@ -30,7 +32,7 @@ module _ {B : ℕ → Block} {n a b : ℕ} (low : 1 ≤ a) where
   decided_codable : {P : Pair} {x : List ℕ} {i : ℕ} → Decided B n a b P x → FirstUncodable B n i → ⊥
   decided_codable {i = i} p u = let g = p.gives i u.within in u.none g.choice g.best.allowed
 
-  priced_unique : {before x y : List ℕ} {r s : PointAnswer} → length before ≡ n → Priced B n a b before r x → Priced B n a b before s y → (r ≡ s) × (x ≡ y)
+  priced_unique : {before x y : List ℕ} {r s : Result Point Refusal} → length before ≡ n → Priced B n a b before r x → Priced B n a b before s y → (r ≡ s) × (x ≡ y)
   priced_unique {r = r} {s = s} l (uncodable i u p q) (uncodable j v o k) =
       let e = uncodable_unique u v in (point_same r s (cc), cc)
   priced_unique l (uncodable i u p q) (decides P d m o) = absurd (decided_codable d u)
@@ -40,7 +42,7 @@ module _ {B : ℕ → Block} {n a b : ℕ} (low : 1 ≤ a) where
       let g = decided_pair d f in
       (point_same r s (cc), e)
 
-pub unique : {levels : List ℤ} {steps lengths : List ℕ} {a b : ℕ} {before x y : List ℕ} {r s : PointAnswer}
+pub unique : {levels : List ℤ} {steps lengths : List ℕ} {a b : ℕ} {before x y : List ℕ} {r s : Result Point Refusal}
     → PriceMeets levels steps lengths a b before r x → PriceMeets levels steps lengths a b before s y → (r ≡ s) × (x ≡ y)
 unique {r = r} {s = s} (refuses n d e v p q) (refuses m f g w o k) = (point_same r s (cc), cc)
 unique {r = r} {s = s} (refuses n d e v p q) (prices w t) = (point_same r s (cc), cc)

@@ -1,9 +1,9 @@
-// The probe's calls as C links them: the library's functions under their names, with the same promises.
-
+//! The probe's calls as C links them: the library's functions under their names, with the same promises.
 #![tactic(auto)]
 
 ghost use Rattle.probe.specs.Probe.{PriceTold, ListTold, FitTold, ThinTold};
 
+/// The price job.
 #[unsafe(no_mangle)]
 pub extern "C" fn anb_price(
     levels: &[i16],
@@ -19,6 +19,7 @@ pub extern "C" fn anb_price(
     probe::anb_price(levels, steps, lengths, a, b, keep, answer);
 }
 
+/// The list job.
 #[unsafe(no_mangle)]
 pub extern "C" fn anb_list(
     levels: &[i16],
@@ -32,6 +33,7 @@ pub extern "C" fn anb_list(
     probe::anb_list(levels, steps, lengths, list, answer);
 }
 
+/// The budget job.
 #[unsafe(no_mangle)]
 pub extern "C" fn anb_fit(
     levels: &[i16],
@@ -46,6 +48,7 @@ pub extern "C" fn anb_fit(
     probe::anb_fit(levels, steps, lengths, budget, keep, answer);
 }
 
+/// The thinning job.
 #[unsafe(no_mangle)]
 pub extern "C" fn anb_thin(levels: &mut [i16], keep: &[u64], answer: &mut [u64])
     ensures { ThinTold levels.old levels.new keep.now answer.old answer.new }

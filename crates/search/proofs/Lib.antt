@@ -1,6 +1,5 @@
 pub mod Tabling
-pub mod Sweeping
 pub mod Reading
 pub mod Placing
 pub mod Weighing
-pub mod Block
+pub mod Holding

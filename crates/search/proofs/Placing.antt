@@ -1,68 +1,49 @@
--- The places of the levels that are not 0: one more position is stored, and counted if its level is not 0; a range
--- of zeros has none.
+-- The places of the levels that are not 0: one more position is stored, and counted if its level is not 0; a range of zeros
+-- has none.
 -- Assumes nothing.
-use borrow.Author.Tests.{eqb-true, not-false}
-use mathlib.Core.Path.{◌≡◌, refl, sym, subst, ap, ◌∙◌}
-use mathlib.Core.Bool.{Bool, true, false, not, ◌||◌}
+use mathlib.Core.Path.{◌≡◌, refl, ap, ◌∙◌}
+use mathlib.Core.Bool.{Bool, true, false}
 use mathlib.Core.List.{List}
 use Prim.Native.Nat.{ℕ, ◌+◌, ◌≤◌, ◌<◌}
 use native.Mathlib.Decide.{dec_lt}
 use native.Mathlib.Omega.{arith}
-use lib.Dec.{eqb}
-use lib.ListN.{length, get_or, set, length-set}
+use lib.ListN.{set, length-set}
 use lib.Seq.{get_or-set_same, get_or-set_other}
-use Rattle.forward.specs.Given.{Met}
-use Rattle.search.specs.Gathering.{Next, Next.stay, Next.more, Zeros, Placed}
+use mir.Val.{bool_byte}
+use Rattle.forward.specs.declared.level.Level.{Level}
+use Rattle.forward.specs.Given.{level_at}
+use Rattle.search.specs.Gathering.{IsPlace, Zeros, Placed}
 
 module _ {level : ℕ → ℕ} where
-  pub placed_start : (place : List ℕ) → length place ≡ 64 → Placed level 0 1 (set place 0 0)
-  placed_start place h =
-      record {
-        long = length-set place 0 0 ∙ h;
-        most = omega arith;
-        start = z;
-        rises = λ i j p q. absurd (omega arith);
-        under = λ i p. let e : i ≡ 0 = omega arith in omega (arith, ap (λ (x : ℕ). get_or (set place 0 0) x 0) e, z);
-        held = λ i p q. absurd (omega arith);
-        every = λ x p q. absurd (omega arith);
-      }
-    where
-      z : get_or (set place 0 0) 0 0 ≡ 0
-      z = get_or-set_same place 0 0 0 (omega arith)
+  -- a level with place k is stored behind the m of the places below k
+  module _ {levels : List Level} {m k : ℕ} (P : Placed level levels m k) (h : k < 64) (v : Level) (here : v.place ≡ k) where
+    old : (i : ℕ) → i ≤ m → (level_at (set levels (m + 1) v) i).place ≡ (level_at levels i).place
+    old i g = ap (λ (v : Level). v.place) (get_or-set_other levels (m + 1) i v (record { place = 0; size = 0; drop = 0 }) (λ e. omega arith))
 
-  module _ {place : List ℕ} {m k : ℕ} (P : Placed level m k place) (h : k < 64) where
-    abbrev place' : List ℕ
-    place' = set place (m + 1) k
+    new : (i : ℕ) → i ≡ m + 1 → (level_at (set levels (m + 1) v) i).place ≡ k
+    new i e = rw e (ap (λ (v : Level). v.place) (get_or-set_same levels (m + 1) v (record { place = 0; size = 0; drop = 0 }) (omega (arith, P.long, P.most))) ∙ here)
 
-    old : (i : ℕ) → i ≤ m → get_or place' i 0 ≡ get_or place i 0
-    old i g = get_or-set_other place (m + 1) i k 0 (λ e. omega arith)
-
-    new : (i : ℕ) → i ≡ m + 1 → get_or place' i 0 ≡ k
-    new i e = ap (λ (x : ℕ). get_or place' x 0) e ∙ get_or-set_same place (m + 1) k 0 (omega (arith, P.long, P.most))
-
-    met : (n x : ℕ) → m ≤ n → Met place m x → Met place' n x
+    met : (n x : ℕ) → m ≤ n → IsPlace levels m x → IsPlace (set levels (m + 1) v) n x
     met n x g e = record { at = e.at; low = e.low; high = omega (arith, e.high); is = old e.at e.high ∙ e.is }
 
-    stays : level k ≡ 0 → Placed level m (k + 1) place'
-    stays z =
+    pub placed_next : (b : Bool) → (b ≡ false → level k ≡ 0) → (b ≡ true → 0 < level k) → Placed level (set levels (m + 1) v) (m + bool_byte b) (k + 1)
+    placed_next false none some =
         record {
-          long = length-set place (m + 1) k ∙ P.long;
+          long = length-set levels (m + 1) v ∙ P.long;
           most = omega (arith, P.most);
           start = old 0 (omega arith) ∙ P.start;
-          rises = λ i j p q. omega (arith, old i (omega arith), old j q, P.rises i j p q);
-          under = λ i p. omega (arith, old i p, P.under i p);
-          held = λ i p q. subst (λ (x : ℕ). 0 < level x) (sym (old i q)) (P.held i p q);
+          rises = λ i j p q. omega (arith, old i (omega arith), old j (omega arith), P.rises i j p (omega arith));
+          under = λ i p. omega (arith, old i (omega arith), P.under i (omega arith));
+          held = λ i p q. rw (old i (omega arith)) (P.held i p (omega arith));
           every =
               λ x p q l. elim (dec_lt x k) [
-                | yes g ↦ met m x (omega arith) (P.every x p g l)
-                | no g ↦ let e : x ≡ k = omega arith in absurd (omega (arith, ap level e))
+                | yes g ↦ met (m + 0) x (omega arith) (P.every x p g l)
+                | no g ↦ let e : x ≡ k = omega arith in absurd (omega (arith, ap level e, none refl))
               ];
         }
-
-    grows : 0 < level k → Placed level (m + 1) (k + 1) place'
-    grows z =
+    placed_next true none some =
         record {
-          long = length-set place (m + 1) k ∙ P.long;
+          long = length-set levels (m + 1) v ∙ P.long;
           most = omega (arith, P.most);
           start = old 0 (omega arith) ∙ P.start;
           rises =
@@ -77,8 +58,8 @@ module _ {level : ℕ → ℕ} where
               ];
           held =
               λ i p q. elim (dec_lt m i) [
-                | yes g ↦ subst (λ (x : ℕ). 0 < level x) (sym (new i (omega arith))) z
-                | no g ↦ subst (λ (x : ℕ). 0 < level x) (sym (old i (omega arith))) (P.held i p (omega arith))
+                | yes g ↦ rw (new i (omega arith)) (some refl)
+                | no g ↦ rw (old i (omega arith)) (P.held i p (omega arith))
               ];
           every =
               λ x p q l. elim (dec_lt x k) [
@@ -87,33 +68,8 @@ module _ {level : ℕ → ℕ} where
               ];
         }
 
-    pub placed_next : {r : ℕ} → Next (level k) m r → Placed level r (k + 1) (set place (m + 1) k)
-    placed_next (stay z e) = rw e (stays z)
-    placed_next (more z e) = rw e (grows z)
-
-  pub placed_same : {place : List ℕ} {m k n : ℕ} → Placed level m k place → k ≤ n → n ≤ k → Placed level m n place
-  placed_same {k = k} {n = n} P h g = let e : k ≡ n = omega arith in rw e at P
-
-  pub zeros_none : (i : ℕ) → Zeros level i i
-  zeros_none i = record { each = λ k p q. absurd (omega arith) }
-
-  zeros_more : {i j : ℕ} → Zeros level i j → level j ≡ 0 → Zeros level i (j + 1)
-  zeros_more {i} {j} Z z =
-      record {
-        each =
-            λ k p q. elim (dec_lt k j) [
-              | yes g ↦ Z.each k p g
-              | no g ↦ let e : k ≡ j = omega arith in ap level e ∙ z
-            ];
-      }
-
-  -- a flag that is false only while the levels below j are 0, joined with the test of what is read at j
-  pub flag_more : {i j : ℕ} (flag : Bool) (n : ℕ) → (flag ≡ false → Zeros level i j) → (n ≡ 0 → level j ≡ 0) → flag || not (eqb n 0) ≡ false → Zeros level i (j + 1)
-  flag_more true n f t h = absurd (let z : ◌≡◌ {A = ℕ} 0 1 = cc in omega arith)
-  flag_more false n f t h = zeros_more (f refl) (t (eqb-true n 0 (not-false (eqb n 0) h)))
-
   -- no place is between k and n if the levels there are 0
-  pub placed_zeros : {place : List ℕ} {m k n : ℕ} → Placed level m k place → Zeros level k n → k ≤ n → Placed level m n place
+  pub placed_zeros : {levels : List Level} {m k n : ℕ} → Placed level levels m k → Zeros level k n → k ≤ n → Placed level levels m n
   placed_zeros {k = k} P Z h =
       record {
         long = P.long;

@@ -1,4 +1,4 @@
-pub mod BitTable
-pub mod Ready
+pub mod Tabling
 pub mod Gathering
-pub mod Sweeping
+pub mod Props
+pub mod Searching

@@ -1,9 +1,5 @@
 -- The way from a node up to the root: node j is met from node k by halving.
--- Assumes nothing.
-use mathlib.Core.Path.{◌≡◌, refl}
-use mathlib.Core.Logic.{◌≢◌}
-use Prim.Native.Nat.{ℕ, ◌/◌}
-use native.Mathlib.Omega.{arith}
+use Rattle.std.proofs.Common.{◌≡◌, ◌≢◌, ℕ, ◌/◌, refl, arith}
 
 pub data Above : ℕ → ℕ → Type 0 where
   here : {k : ℕ} → Above k k

@@ -1,8 +1,7 @@
-pub mod Order
-pub mod Duel
 pub mod Above
+pub mod Wins
 pub mod Node
-pub mod Root
-pub mod Growing
 pub mod Mending
-pub mod Stored
+pub mod Root
+pub mod Changed
+pub mod Steepest

@@ -1,96 +1,91 @@
--- The tournament while it is mended: the nodes are right but those above node k.
--- Assumes nothing.
-use mathlib.Core.Path.{◌≡◌, refl}
-use mathlib.Core.List.{List}
-use mathlib.Core.Logic.{◌≢◌}
-use Prim.Native.Nat.{ℕ, ◌+◌, ◌*◌, ◌-◌, ◌/◌, ◌≤◌, ◌<◌}
-use native.Mathlib.Decide.{ℕ_discrete}
-use native.Mathlib.Omega.{arith}
-use lib.ListN.{length, get_or, set, length-set}
-use lib.Seq.{get_or-set_same, get_or-set_other}
-use Rattle.steepest.specs.Slope.{Slope, Slopes}
-use Rattle.steepest.specs.Tree.{Better, first, second, Node, Tree, Stale}
+-- The tournament while it is mended: the nodes are right but those above node k, and the nodes above a contestant's leaf are the only ones that its change can make wrong.
+use Rattle.std.proofs.Common.{◌≡◌, ◌≢◌, ℕ, ◌+◌, ◌-◌, ◌*◌, ◌/◌, ◌<◌, ◌≤◌, List, length, slice_index, slice_set, arith, refl, sym, ◌∙◌, inl, inr, length-set, get_or-set_other, get_or-set_same}
+use Rattle.std.proofs.lemmas.Bool.{cases_eq}
+use Rattle.steepest.specs.Tournament.{WinsAt, IsWinner, IsNode, IsTournament, IsStale}
 use Rattle.steepest.proofs.Above.{Above, there, parents_above, next_above, none_above}
-use Rattle.steepest.proofs.Order.{swapped, better_one}
-use Rattle.steepest.proofs.Node.{node_within, node_home, node_kept, node_stored}
+use Rattle.steepest.proofs.Wins.{swapped, one_of}
+use Rattle.steepest.proofs.Node.{inner_made, node_made, home}
 
-pub record Mending (run fall : List ℕ) (n : ℕ) (tree : List ℕ) (k : ℕ) : Type 0 where
-  pub slopes : Slopes run fall n
-  pub long : 2 * n ≤ length tree
-  pub within : (j : ℕ) → 1 ≤ j → j < 2 * n → get_or tree j 0 < n
-  pub node : (j : ℕ) → 1 ≤ j → j < 2 * n → (Above (k / 2) j → ⊥) → Node run fall n tree j
+pub record Mending {W : Type 0} (wins : W → W → Type 0) (ways : List W) (seats : List ℕ) (k : ℕ) : Type 0 where
+  pub room : 2 * length ways ≤ length seats
+  pub within : (j : ℕ) → 1 ≤ j → j < 2 * length ways → slice_index seats j < length ways
+  pub node : (j : ℕ) → 1 ≤ j → j < 2 * length ways → (Above (k / 2) j → ⊥) → IsNode wins ways seats j
 
-module _ {run fall : List ℕ} {n : ℕ} {tree : List ℕ} {i : ℕ} (s : Stale run fall n tree i) where
-  pub own_leaf : get_or tree (n + i) 0 ≡ i
-  own_leaf = let l = s.inside in (s.was.node (n + i) (omega arith) (omega arith)).leaf i refl
+module _ {W : Type 0} {wins : W → W → Type 0} {ways : List W} {seats : List ℕ} where
+  module _ {i : ℕ} (stale : IsStale wins ways seats i) where
+    -- a duel in which contestant i has no part
+    same_win : (x y : ℕ) → x ≢ i → y ≢ i → WinsAt wins stale.before x y → WinsAt wins ways x y
+    same_win x y p q won a b is_a is_b = won a b (sym (stale.same_others x p) ∙ is_a) (sym (stale.same_others y q) ∙ is_b)
 
-  -- a duel in which block i has no part
-  same_duel : {x y z : ℕ} → x ≢ i → y ≢ i → Better s.runs s.falls x y z → Better run fall x y z
-  same_duel {x} {y} p q (first h) = first (rw (s.same_run x p, s.same_run y q, s.same_fall x p, s.same_fall y q) h)
-  same_duel {x} {y} p q (second h) = second (rw (s.same_run x p, s.same_run y q, s.same_fall x p, s.same_fall y q) h)
+    same_duel : {x y z : ℕ} → x ≢ i → y ≢ i → IsWinner wins stale.before x y z → IsWinner wins ways x y z
+    same_duel {x} {y} {z} p q was =
+        let r : z ≢ i = one_of (λ (c : ℕ). c ≢ i) p q was in
+        record { one = was.one; over_first = same_win z x r p was.over_first; over_second = same_win z y r q was.over_second }
 
-  -- a node that holds block i is on the way up from its leaf
-  elsewhere : (j c : ℕ) → 1 ≤ c → c < 2 * n → c / 2 ≡ j → (Above ((n + i) / 2) j → ⊥) → get_or tree c 0 ≢ i
-  elsewhere j c l m e h f = h (parents_above (rw f at (node_home {k = 1} (omega arith) s.was.node c l m)) e)
+    pub own_leaf : slice_index seats (length ways + i) ≡ i
+    own_leaf =
+        let inside = stale.inside in
+        let same = stale.same_count in
+        (stale.was.node (length ways + i) (omega arith) (omega arith)).leaf i (omega arith)
 
-  pub mending_start : Mending run fall n tree (n + i)
-  mending_start =
-      record {
-        slopes = s.slopes;
-        long = s.was.long;
-        within = node_within (omega arith) s.was.node;
-        node = λ j l m h. record {
-          leaf = (s.was.node j l m).leaf;
-          inner = λ p. same_duel (elsewhere j (2 * j) (omega arith) (omega arith) (omega arith) h) (elsewhere j (2 * j + 1) (omega arith) (omega arith) (omega arith) h)
-              ((s.was.node j l m).inner p);
-        };
-      }
+    -- a node that holds contestant i is on the way up from its leaf
+    elsewhere : (j c : ℕ) → 1 ≤ c → c < 2 * length ways → c / 2 ≡ j → (Above ((length ways + i) / 2) j → ⊥) → slice_index seats c ≢ i
+    elsewhere j c some below e not_above holds =
+        let same = stale.same_count in
+        let from_leaf : Above (length ways + i) c = rw (sym same, holds) at (home seats stale.was (2 * length ways) c (omega arith) some (omega arith)) in
+        not_above (parents_above from_leaf e)
+
+    pub mending_start : Mending wins ways seats (length ways + i)
+    mending_start =
+        let same = stale.same_count in
+        let room = stale.was.room in
+        record {
+          room = omega arith;
+          within = λ j some below. omega (arith, (stale.was.node j some (omega arith)).within);
+          node = λ j some below not_above.
+              let was = stale.was.node j some (omega arith) in
+              record {
+                within = omega (arith, was.within);
+                leaf = λ l e. was.leaf l (omega arith);
+                inner = λ inner. same_duel (elsewhere j (2 * j) (omega arith) (omega arith) (omega arith) not_above)
+                    (elsewhere j (2 * j + 1) (omega arith) (omega arith) (omega arith) not_above) (was.inner (omega arith));
+              };
+        }
 
 -- node k is on the left or on the right below its parent p
-in_order : {run fall : List ℕ} {z : ℕ} (tree : List ℕ) (k p : ℕ) → k / 2 ≡ p → Better run fall (get_or tree k 0) (get_or tree (4 * p + 1 - k) 0) z
-    → Better run fall (get_or tree (2 * p) 0) (get_or tree (2 * p + 1) 0) z
-in_order {run} {fall} {z} tree k p h b = go (ℕ_discrete k (2 * p))
-  where
-    go : Dec (k ≡ 2 * p) → Better run fall (get_or tree (2 * p) 0) (get_or tree (2 * p + 1) 0) z
-    go (yes e) = let f : 4 * p + 1 - k ≡ 2 * p + 1 = omega arith in rw (f, e) at b
-    go (no e) =
-        let f : 4 * p + 1 - k ≡ 2 * p = omega arith in
-        let g : k ≡ 2 * p + 1 = omega arith in
-        swapped (rw (f, g) at b)
+in_order : {W : Type 0} {wins : W → W → Type 0} {ways : List W} (seats : List ℕ) {z : ℕ} (k p : ℕ) → k / 2 ≡ p → IsWinner wins ways (slice_index seats k) (slice_index seats (4 * p + 1 - k)) z
+    → IsWinner wins ways (slice_index seats (2 * p)) (slice_index seats (2 * p + 1)) z
+in_order seats k p half won = elim (cases_eq k (2 * p)) [
+  | inl left ↦ let right : 4 * p + 1 - k ≡ 2 * p + 1 = omega arith in rw (right, left) at won
+  | inr other ↦
+      let left : 4 * p + 1 - k ≡ 2 * p = omega arith in
+      let right : k ≡ 2 * p + 1 = omega arith in
+      swapped (rw (left, right) at won)
+]
 
-module _ {run fall : List ℕ} {n k : ℕ} {tree : List ℕ} (m : Mending run fall n tree k) where
-  pub mending_slope : (j : ℕ) → 1 ≤ j → j < 2 * n → Slope run fall (get_or tree j 0)
-  mending_slope j l h = m.slopes.each _ (m.within j l h)
-
-  pub mending_end : k < 2 → Tree run fall n tree
-  mending_end l =
-      record {
-        slopes = m.slopes;
-        long = m.long;
-        node = λ j p q. m.node j p q (λ a. let e : j ≡ 0 = none_above a (omega arith) in omega arith);
-      }
-
-  module _ {z : ℕ} (low : 2 ≤ k) (high : k < 2 * n) (b : Better run fall (get_or tree k 0) (get_or tree (4 * (k / 2) + 1 - k) 0) z) where
-    pub mending_step : Mending run fall n (set tree (k / 2) z) (k / 2)
-    mending_step =
+module _ {W : Type 0} {wins : W → W → Type 0} {ways : List W} {seats : List ℕ} where
+  module _ {k : ℕ} (now : Mending wins ways seats k) where
+    pub mending_end : 1 ≤ length ways → k < 2 → IsTournament wins ways seats
+    mending_end some small =
         record {
-          slopes = m.slopes;
-          long = let s = m.long in simp length-set s;
-          within = λ j p q. within j p q (ℕ_discrete j (k / 2));
-          node = λ j p q h. node j p q h (ℕ_discrete j (k / 2));
+          some = some;
+          room = now.room;
+          node = λ j p q. now.node j p q (λ above. let none : j ≡ 0 = none_above above (omega arith) in omega arith);
         }
-      where
-        room : k / 2 < length tree
-        room = let s = m.long in omega arith
 
-        within : (j : ℕ) → 1 ≤ j → j < 2 * n → Dec (j ≡ k / 2) → get_or (set tree (k / 2) z) j 0 < n
-        within j p q (yes e) =
-            rw (e, get_or-set_same tree (k / 2) z 0 room)
-            (better_one (λ (x : ℕ). x < n) (m.within k (omega arith) high) (m.within (4 * (k / 2) + 1 - k) (omega arith) (omega arith)) b)
-        within j p q (no e) = rw (get_or-set_other tree (k / 2) j z 0 e) (m.within j p q)
-
-        node : (j : ℕ) → 1 ≤ j → j < 2 * n → (Above (k / 2 / 2) j → ⊥) → Dec (j ≡ k / 2) → Node run fall n (set tree (k / 2) z) j
-        node j p q h (yes e) =
-            rw e (node_stored tree (k / 2) z (omega arith) room (λ i f. absurd (omega arith)) (λ _. in_order tree k (k / 2) refl b))
-        node j p q h (no e) =
-            node_kept tree (k / 2) z e (λ f. h (there (omega arith))) (λ f. h (there (omega arith))) (m.node j p q (λ a. h (next_above a e)))
+    module _ {z : ℕ} (low : 2 ≤ k) (high : k < 2 * length ways) (won : IsWinner wins ways (slice_index seats k) (slice_index seats (4 * (k / 2) + 1 - k)) z) where
+      pub mending_step : Mending wins ways (slice_set seats (k / 2) z) (k / 2)
+      mending_step =
+          let room = now.room in
+          let z_within = one_of (λ (x : ℕ). x < length ways) (now.within k (omega arith) high) (now.within (4 * (k / 2) + 1 - k) (omega arith) (omega arith)) won in
+          let inside : k / 2 < length seats = omega arith in
+          let made = inner_made {wins = wins} {ways = ways} seats (k / 2) z inside (omega arith) (omega arith) z_within (in_order seats k (k / 2) refl won) in
+          record {
+            room = omega (arith, length-set seats (k / 2) z);
+            within = λ j p q. elim (cases_eq j (k / 2)) [
+              | inl same ↦ rw (same, get_or-set_same seats (k / 2) z 0 inside) z_within
+              | inr other ↦ rw (get_or-set_other seats (k / 2) j z 0 other) (now.within j p q)
+            ];
+            node = λ j p q not_above. node_made seats (k / 2) z made
+                (λ other. (λ e. not_above (there (omega arith)), λ e. not_above (there (omega arith)), now.node j p q (λ above. not_above (next_above above other))));
+          }

@@ -1,43 +1,34 @@
--- The root of a tree holds a steepest block: by steps down from the root no node is steeper than it, and each block has its leaf.
--- Assumes nothing.
-use mathlib.Core.Path.{◌≡◌, refl}
-use mathlib.Core.List.{List}
-use Prim.Native.Nat.{ℕ, zero, suc, ◌+◌, ◌*◌, ◌/◌, ◌≤◌, ◌<◌}
-use native.Mathlib.Nat.{le_refl}
-use native.Mathlib.Decide.{ℕ_discrete}
-use native.Mathlib.Omega.{arith}
-use lib.ListN.{get_or}
-use Rattle.steepest.specs.Slope.{AsSteep, Top}
-use Rattle.steepest.specs.Tree.{Better, Tree}
-use Rattle.steepest.proofs.Order.{steep_trans, swapped, better_first}
-use Rattle.steepest.proofs.Node.{node_within}
+-- The root of a tournament wins over all: by steps down from the root it wins over the contestant at each node, and each contestant has its leaf.
+use Rattle.std.proofs.Common.{◌≡◌, ℕ, zero, suc, ◌+◌, ◌*◌, ◌/◌, ◌<◌, ◌≤◌, List, length, slice_index, arith, refl, inl, inr}
+use Rattle.std.proofs.lemmas.Bool.{cases_eq}
+use Rattle.steepest.specs.Tournament.{WinsAt, IsTournament, IsTop}
+use Rattle.steepest.proofs.Wins.{wins_itself, wins_through}
 
-module _ {run fall : List ℕ} {n : ℕ} {tree : List ℕ} (t : Tree run fall n tree) where
-  tree_within : (j : ℕ) → 1 ≤ j → j < 2 * n → get_or tree j 0 < n
-  tree_within = node_within (le_refl 1) t.node
-
-  child_no_steeper : (p j : ℕ) → j / 2 ≡ p → 1 ≤ p → p < n → AsSteep run fall (get_or tree p 0) (get_or tree j 0)
-  child_no_steeper p j h l m = go (ℕ_discrete (2 * p) j) ((t.node p l (omega arith)).inner m)
-    where
-      go : Dec (2 * p ≡ j) → Better run fall (get_or tree (2 * p) 0) (get_or tree (2 * p + 1) 0) (get_or tree p 0) → AsSteep run fall (get_or tree p 0) (get_or tree j 0)
-      go (yes e) b = rw e at (better_first b)
-      go (no e) b = let q : 2 * p + 1 ≡ j = omega arith in rw q at (better_first (swapped b))
+module _ {W : Type 0} (wins : W → W → Type 0) (reflexive : (x : W) → wins x x) (transitive : (x y z : W) → wins x y → wins y z → wins x z) (ways : List W) (seats : List ℕ)
+    (t : IsTournament wins ways seats) where
+  wins_child : (p j : ℕ) → j / 2 ≡ p → 1 ≤ p → p < length ways → WinsAt wins ways (slice_index seats p) (slice_index seats j)
+  wins_child p j half some inner =
+      let won = (t.node p some (omega arith)).inner inner in
+      elim (cases_eq (2 * p) j) [
+        | inl left ↦ rw left at won.over_first
+        | inr other ↦ let right : 2 * p + 1 ≡ j = omega arith in rw right at won.over_second
+      ]
 
   -- d bounds the way up
-  no_steeper : (d j : ℕ) → j ≤ d → 1 ≤ j → j < 2 * n → AsSteep run fall (get_or tree 1 0) (get_or tree j 0)
-  no_steeper zero j h l m = absurd (omega arith)
-  no_steeper (suc d) j h l m = go (ℕ_discrete j 1) (λ p. no_steeper d (j / 2) (omega arith) p (omega arith))
-    where
-      go : Dec (j ≡ 1) → (1 ≤ j / 2 → AsSteep run fall (get_or tree 1 0) (get_or tree (j / 2) 0)) → AsSteep run fall (get_or tree 1 0) (get_or tree j 0)
-      go (yes e) r = rw e (le_refl _)
-      go (no e) r =
-          steep_trans run fall (get_or tree 1 0) (get_or tree (j / 2) 0) (get_or tree j 0) (t.slopes.each _ (tree_within (j / 2) (omega arith) (omega arith))).run_low
-          (r (omega arith)) (child_no_steeper (j / 2) j refl (omega arith) (omega arith))
+  root_wins : (d j : ℕ) → j ≤ d → 1 ≤ j → j < 2 * length ways → WinsAt wins ways (slice_index seats 1) (slice_index seats j)
+  root_wins zero j deep some below = absurd (omega arith)
+  root_wins (suc d) j deep some below = elim (cases_eq j 1) [
+    | inl root ↦ rw root (wins_itself wins reflexive ways (slice_index seats 1))
+    | inr other ↦
+        wins_through wins transitive ways (slice_index seats 1) (slice_index seats (j / 2)) (slice_index seats j) (t.node (j / 2) (omega arith) (omega arith)).within
+        (root_wins d (j / 2) (omega arith) (omega arith) (omega arith)) (wins_child (j / 2) j refl (omega arith) (omega arith))
+  ]
 
-  pub root_top : Top run fall n (get_or tree 1 0)
+  pub root_top : IsTop wins ways (slice_index seats 1)
   root_top =
-      let s = t.slopes.some in
+      let some = t.some in
       record {
-        within = tree_within 1 (omega arith) (omega arith);
-        steepest = λ i l. rw ((t.node (n + i) (omega arith) (omega arith)).leaf i refl) at (no_steeper (n + i) (n + i) (omega arith) (omega arith) (omega arith));
+        within = (t.node 1 (omega arith) (omega arith)).within;
+        wins_all = λ i inside. rw ((t.node (length ways + i) (omega arith) (omega arith)).leaf i refl) at
+            (root_wins (length ways + i) (length ways + i) (omega arith) (omega arith) (omega arith));
       }

@@ -1,3 +1,3 @@
 pub mod Slope
-pub mod Tree
-pub mod Duel
+pub mod Tournament
+pub mod Ways

@@ -1,25 +1,19 @@
--- Which of some blocks has the steepest way to its next corner: most fall of error for its run of bits.
-use Rattle.std.specs.Prelude.{List, ℕ, ◌*◌, ◌≤◌, ◌<◌, length, get_or}
-use Rattle.block.specs.Limits.{most_bits, most_error}
+-- When one way to a next corner is at least as steep as another: no less fall of error for its run of bits. It is an order, since no run is 0.
+use Rattle.std.specs.Prelude.{ℕ, ◌*◌, ◌≤◌}
+use Rattle.std.proofs.Common.{arith}
+use Rattle.std.proofs.Math.Nat.{mul-le-mul_right, le_of_mul-le-mul_right}
 
--- a run and a fall that a block can have, so that a product of the two fits in 64 bits
-pub record Slope (run fall : List ℕ) (i : ℕ) : Type 0 where
-  pub in_run : i < length run
-  pub in_fall : i < length fall
-  pub run_low : 1 ≤ get_or run i 0
-  pub run_high : get_or run i 0 ≤ most_bits
-  pub fall_high : get_or fall i 0 ≤ most_error
+-- a way of this run and fall is at least as steep as the other
+abbrev pub AsSteep : ℕ → ℕ → ℕ → ℕ → Type 0
+AsSteep run fall other_run other_fall = other_fall * run ≤ fall * other_run
 
--- n blocks, at least one
-pub record Slopes (run fall : List ℕ) (n : ℕ) : Type 0 where
-  pub some : 1 ≤ n
-  pub each : (i : ℕ) → i < n → Slope run fall i
+pub AsSteep-reflexive : (run fall : ℕ) → AsSteep run fall run fall
+AsSteep-reflexive run fall = omega arith
 
--- x is at least as steep as y
-abbrev pub AsSteep : List ℕ → List ℕ → ℕ → ℕ → Type 0
-AsSteep run fall x y = get_or fall y 0 * get_or run x 0 ≤ get_or fall x 0 * get_or run y 0
-
--- k is at least as steep as each of the n blocks
-pub record Top (run fall : List ℕ) (n k : ℕ) : Type 0 where
-  pub within : k < n
-  pub steepest : (i : ℕ) → i < n → AsSteep run fall k i
+-- falls f, g, h over runs r, s, t
+pub AsSteep-transitive : (r f s g t h : ℕ) → 1 ≤ s → AsSteep r f s g → AsSteep s g t h → AsSteep r f t h
+AsSteep-transitive r f s g t h some first second =
+    let first_wide : g * r * t ≤ f * s * t = mul-le-mul_right t first in
+    let second_wide : h * s * r ≤ g * t * r = mul-le-mul_right r second in
+    let wide : h * r * s ≤ f * t * s = omega (arith, first_wide, second_wide) in
+    le_of_mul-le-mul_right wide some

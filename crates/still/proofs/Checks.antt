@@ -1,31 +1,22 @@
 -- What each check says when it refuses nothing.
 -- Assumes nothing.
-use mathlib.Core.Path.{◌≡◌, refl, sym, ◌∙◌}
-use mathlib.Core.Bool.{Bool, true, false, not, ◌&&◌, ◌||◌}
-use mathlib.Core.List.{List}
-use Prim.Native.Nat.{ℕ, ◌+◌, ◌*◌, ◌/◌, ◌%◌, ◌≤◌, ◌<◌}
+use Rattle.std.proofs.Common.{◌≡◌, ℕ, ◌+◌, ◌*◌, ◌/◌, ◌%◌, ◌≤◌, ◌<◌, Bool, true, false, not, ◌&&◌, ◌||◌, eqb, ltb, List, length, get_or, drop, length-drop, ℤ, pos, refl, sym, ◌∙◌, arith}
+use Rattle.std.proofs.Math.ListN.{get_or-eq_default}
+use Rattle.std.proofs.lemmas.Bool.{ltb-false, eqb-true, eqb-false, eq-eqb, not-false, or_parts}
+use Rattle.std.proofs.lemmas.List.{length-take-le}
 use native.Mathlib.Decide.{dec_le}
-use native.Mathlib.Omega.{arith}
-use borrow.Author.Tests.{ltb-false, eqb-true, eqb-false, eq-eqb, not-false}
-use lib.Dec.{eqb, ltb}
-use lib.IntN.{ℤ, pos}
-use lib.ListN.{length, get_or, drop, length-drop, get_or-eq_default}
-use lib.Seq.{length-take-le}
 use Rattle.block.specs.First.{pick, first_below}
 use Rattle.block.proofs.First.{first_fails}
 use Rattle.block.specs.Level.{ac_level, levels_of}
 use Rattle.block.specs.Limits.{Levels, Steps, Lengths}
-use Rattle.price.specs.Price.{outside, Accepted, most_on_error, most_on_bits}
+use Rattle.price.specs.Price.{outside}
+use Rattle.price.specs.Accepted.{Accepted, most_on_error, most_on_bits}
 use Rattle.answers.specs.Said.{fine}
 use Rattle.answers.proofs.Verdicts.{when_fine}
 use Rattle.still.specs.Refusals.{levels_check, outside_at, table_check, steps_check, lengths_check, price_check, keep_room_check, list_room_check, bit_at, ac_at, bad_level, ac_check, bad_keep, keep_check}
 use Rattle.still.specs.Sound.{Still, KeepNumbers}
 use Rattle.still.proofs.Place.{ac_some, ac_of}
 use Rattle.still.proofs.Bits.{bad_at}
-
-neither : (s t : Bool) → s || t ≡ false → (s ≡ false) × (t ≡ false)
-neither true t e = absurd (let z : ◌≡◌ {A = ℕ} 0 1 = cc in omega arith)
-neither false t e = (refl, e)
 
 same : (x y : ℕ) → not (eqb x y) ≡ false → x ≡ y
 same x y e = eqb-true x y (not-false _ e)
@@ -34,28 +25,23 @@ same x y e = eqb-true x y (not-false _ e)
 none_bad : (bad : ℕ → Bool) (n : ℕ) → ltb (first_below bad n) n ≡ false → (i : ℕ) → i < n → bad i ≡ false
 none_bad bad n e i h = first_fails bad n i (omega (arith, ltb-false (first_below bad n) n e))
 
-pub record Counted (count n : ℕ) : Type 0 where
-  pub whole : count ≡ 64 * n
-  pub least : 1 ≤ n
-  pub most : n ≤ 1024
-
-pub levels_fine : (count : ℕ) → levels_check count ≡ fine → Counted count (count / 64)
+pub levels_fine : (count : ℕ) → levels_check count ≡ fine → (count ≡ 64 * (count / 64)) × (1 ≤ count / 64) × (count / 64 ≤ 1024)
 unfolding levels_check
 levels_fine count e =
     let n = count / 64 in
-    let p = neither (not (eqb (64 * n) count) || ltb n 1) (ltb 1024 n) (when_fine _ _ _ _ e) in
-    let q = neither (not (eqb (64 * n) count)) (ltb n 1) p.0 in
-    record { whole = sym (same (64 * n) count q.0); least = ltb-false n 1 q.1; most = ltb-false 1024 n p.1 }
+    let p = or_parts (not (eqb (64 * n) count) || ltb n 1) (ltb 1024 n) (when_fine _ _ _ _ e) in
+    let q = or_parts (not (eqb (64 * n) count)) (ltb n 1) p.0 in (sym (same (64 * n) count q.0), ltb-false n 1 q.1, ltb-false 1024 n p.1)
 
 -- a table that is not refused: the count is right, and no index is told
 module _ (number count low high : ℕ) (values : List ℕ) where
+  -- by cases, since which of the two checks comes first does not matter here
   table_tests : (s t : Bool) → eqb (length values) count ≡ s → ltb (first_below (outside_at low high values) count) count ≡ t
       → table_check number count low high values ≡ fine → (s ≡ true) × (t ≡ false)
   unfolding table_check
   table_tests true false p q e = (refl, refl)
-  table_tests true true p q e = absurd (let z : ◌≡◌ {A = ℕ} 0 1 = cc in omega arith)
-  table_tests false false p q e = absurd (let z : ◌≡◌ {A = ℕ} 0 1 = cc in omega arith)
-  table_tests false true p q e = absurd (let z : ◌≡◌ {A = ℕ} 0 1 = cc in omega arith)
+  table_tests true true p q e = cc
+  table_tests false false p q e = cc
+  table_tests false true p q e = cc
 
   table_fine : table_check number count low high values ≡ fine → (length values ≡ count) × ((i : ℕ) → get_or values i 0 ≤ high)
   unfolding outside_at
@@ -66,7 +52,7 @@ module _ (number count low high : ℕ) (values : List ℕ) where
     where
       at : (i : ℕ) → length values ≡ count → ((k : ℕ) → k < count → outside_at low high values k ≡ false) → Dec (count ≤ i) → get_or values i 0 ≤ high
       at i s h (yes l) = rw (get_or-eq_default values 0 {n = i} (omega arith)) (omega arith)
-      at i s h (no l) = ltb-false high (get_or values i 0) (neither (ltb (get_or values i 0) low) (ltb high (get_or values i 0)) (h i (omega arith))).1
+      at i s h (no l) = ltb-false high (get_or values i 0) (or_parts (ltb (get_or values i 0) low) (ltb high (get_or values i 0)) (h i (omega arith))).1
 
 pub steps_fine : (steps : List ℕ) → steps_check steps ≡ fine → Steps steps
 steps_fine steps e = let p = table_fine 2 64 1 255 steps e in record { count = p.0; most = p.1 }
@@ -92,7 +78,7 @@ pub list_room_fine : (room : ℕ) → list_room_check room ≡ fine → room % 3
 unfolding list_room_check
 list_room_fine room e = same (room % 3) 0 (when_fine _ _ _ _ e)
 
-module _ (levels : List ℤ) (n : ℕ) (c : Counted (length levels) n) where
+module _ (levels : List ℤ) (n : ℕ) (c : (length levels ≡ 64 * n) × (1 ≤ n) × (n ≤ 1024)) where
   -- block b of the still, whose levels are not bad
   block_fine : ((i : ℕ) → i < length levels → bad_level levels i ≡ false) → (b : ℕ) → b < n → Levels (levels_of levels b)
   unfolding bad_level
@@ -110,9 +96,9 @@ module _ (levels : List ℤ) (n : ℕ) (c : Counted (length levels) n) where
   unfolding ac_check
   ac_fine e =
       record {
-        count = c.whole;
-        least = c.least;
-        most = c.most;
+        count = c.0;
+        least = c.1;
+        most = c.2;
         blocks = block_fine (none_bad (bad_level levels) (length levels) (when_fine _ _ _ _ e));
       }
 

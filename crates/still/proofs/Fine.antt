@@ -5,7 +5,7 @@ use mathlib.Core.List.{List}
 use Prim.Native.Nat.{ℕ, ◌/◌, ◌%◌}
 use lib.IntN.{ℤ}
 use lib.ListN.{length}
-use Rattle.price.specs.Price.{Accepted}
+use Rattle.price.specs.Accepted.{Accepted}
 use Rattle.answers.specs.Said.{fine, ◌then◌}
 use Rattle.answers.proofs.Verdicts.{then_fine}
 use Rattle.still.specs.Refusals.{levels_check, keep_room_check, ac_check, still_check, price_verdict, list_verdict, budget_verdict, thin_verdict}
@@ -19,7 +19,7 @@ module _ (levels : List ℤ) where
 
   module _ (steps lengths : List ℕ) where
     -- 1, 2, 3 and 6
-    sound_fine : still_check levels steps lengths ≡ fine → ac_check levels ≡ fine → Sound levels steps lengths (length levels / 64)
+    pub sound_fine : still_check levels steps lengths ≡ fine → ac_check levels ≡ fine → Sound levels steps lengths (length levels / 64)
     sound_fine e f =
         let p = then_fine _ _ e in
         let q = then_fine _ _ p.0 in

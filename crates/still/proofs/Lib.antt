@@ -1,7 +1,8 @@
-pub mod Passed
+pub mod First
 pub mod Place
-pub mod Made
+pub mod Cut
 pub mod Bits
-pub mod Eights
+pub mod Ranges
 pub mod Checks
 pub mod Fine
+pub mod Blocks

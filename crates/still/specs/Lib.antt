@@ -1,3 +1,4 @@
 pub mod Refusals
 pub mod Sound
 pub mod Passed
+pub mod Blocks

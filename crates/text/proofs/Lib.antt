@@ -1,4 +1,3 @@
 pub mod Number
-pub mod Joined
-pub mod Lines
+pub mod Pieces
 pub mod Example

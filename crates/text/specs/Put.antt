@@ -1,9 +1,10 @@
--- What the private functions promise: text put at a place among other bytes.
-use Rattle.std.specs.Prelude.{◌≡◌, List, ℕ, ◌+◌, ◌≤◌, length}
-use Rattle.std.proofs.lemmas.List.Edits.{sets}
+-- What the methods of `Text` promise: bytes put behind a text.
+use Rattle.std.specs.Prelude.{◌≡◌, List, ◌++◌, ℕ, ◌+◌, ◌≤◌, length, take, drop}
 
--- text of at most `most` bytes stands at place `at`, and r is the place behind it
-pub record Put (most : ℕ) (before : List ℕ) (at : ℕ) (text after : List ℕ) (r : ℕ) : Type 0 where
-  pub stored : after ≡ sets before at text
-  pub end : r ≡ at + length text
+-- the text of `at` bytes goes on with `more`, of at most `most` bytes, up to place r; the bytes behind it are as they were before
+pub record Put (most : ℕ) (before : List ℕ) (at : ℕ) (more after : List ℕ) (r : ℕ) : Type 0 where
+  pub text : take r after ≡ take at before ++ more
+  pub behind : drop r after ≡ drop r before
+  pub room : length after ≡ length before
+  pub grows : at ≤ r
   pub short : r ≤ at + most

@@ -1,28 +1,25 @@
 -- The text of the list program, in ASCII codes: one blank parts the fields, a newline ends each line, the last too.
-use Rattle.std.specs.Prelude.{◌≡◌, List, [], ◌∷◌, ◌++◌, ℕ, zero, suc, ◌+◌, ◌*◌, ◌^◌, ◌≤◌, ltb, length, get_or, take, drop}
+use Rattle.std.specs.Prelude.{◌≡◌, List, [], ◌∷◌, ◌++◌, ℕ, zero, suc, ◌+◌, ◌*◌, ◌/◌, ◌%◌, ◌^◌, ◌≤◌, ltb, length, get_or, take, drop, codes}
 use Rattle.block.specs.First.{first_below}
-use Rattle.io.specs.Digits.{last_digits}
 
 -- the fewest decimal digits that hold n, one for 0
 unfoldable pub places : ℕ → ℕ
 places n = first_below (λ k. ltb n (10 ^ (k + 1))) n + 1
 
+-- the last k digits of n, the code of 0 being 48
+unfoldable pub last_digits : ℕ → ℕ → List ℕ
+last_digits zero n = []
+last_digits (suc k) n = last_digits k (n / 10) ++ (48 + n % 10) ∷ []
+
 -- n in decimal, without zeros in front
 unfoldable pub decimal : ℕ → List ℕ
-decimal n = last_digits 10 (places n) n
+decimal n = last_digits (places n) n
 
 abbrev pub blank : ℕ
 blank = 32
 
 abbrev pub newline : ℕ
 newline = 10
-
--- `corners` and `refused`
-abbrev pub corners_word : List ℕ
-corners_word = 99 ∷ 111 ∷ 114 ∷ 110 ∷ 101 ∷ 114 ∷ 115 ∷ []
-
-abbrev pub refused_word : List ℕ
-refused_word = 114 ∷ 101 ∷ 102 ∷ 117 ∷ 115 ∷ 101 ∷ 100 ∷ []
 
 -- three numbers and the end of their line
 unfoldable pub line : ℕ → ℕ → ℕ → List ℕ
@@ -35,11 +32,11 @@ corner_lines list (suc k) = corner_lines list k ++ line (get_or list (3 * k) 0) 
 
 -- `corners` and their number, then a line for each
 unfoldable pub corners_text : ℕ → List ℕ → List ℕ
-corners_text n list = corners_word ++ blank ∷ decimal n ++ newline ∷ corner_lines list n
+corners_text n list = codes "corners " ++ decimal n ++ newline ∷ corner_lines list n
 
 -- `refused`, the number of the refusal and its two details
 unfoldable pub refused_text : ℕ → ℕ → ℕ → List ℕ
-refused_text number first second = refused_word ++ blank ∷ line number first second
+refused_text number first second = codes "refused " ++ line number first second
 
 -- the first r bytes are the text, and those behind them are as they were before
 pub record Holds (before text after : List ℕ) (r : ℕ) : Type 0 where

@@ -93,8 +93,8 @@ module _ {B : ℕ → Block} {n : ℕ} {L : List Pair} {before after : List ℕ}
         ∙ entries_set after (length L) (3 * length L) _ (omega arith) ∙ ap (entries after) (sym all_held) ∙ w.pairs
         ∙ take_all w.held L (omega (arith, all_held))
 
-    pub written_more : Written B n (L ++ (pair_of p ∷ [])) before with_kept
-    written_more = record {
+    all_written : Written B n (L ++ (pair_of p ∷ [])) before with_kept
+    all_written = record {
       held = length L + 1;
       some = omega (arith, more_long (pair_of p));
       room = simp length-set (omega arith);
@@ -107,6 +107,10 @@ module _ {B : ℕ → Block} {n : ℕ} {L : List Pair} {before after : List ℕ}
           (rw (bits_there, error_there, kept_there) kept);
       behind = λ j l. apart j (λ e. omega arith) (λ e. omega arith) (λ e. omega arith) ∙ w.behind j (omega (arith, all_held));
     }
+
+  pub written_more : {count : ℕ} → length L ≡ count → (p : Point) → 3 * count + 3 ≤ length after → CornerKept B n (pair_of p) p.kept
+      → Written B n (L ++ (pair_of p ∷ [])) before (set (set (set after (3 * count) p.bits.0) (3 * count + 1) p.error.0) (3 * count + 2) p.kept)
+  written_more {count} size p fits kept = rw (sym size) (all_written p (omega arith) kept)
 
   -- All are written where there is room for them.
   module _ (fits : 3 * length L ≤ length before) where

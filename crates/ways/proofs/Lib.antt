@@ -1,4 +1,3 @@
-pub mod Chosen
 pub mod Remembering
 pub mod Seeking
 pub mod Knowing

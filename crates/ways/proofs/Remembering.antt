@@ -1,84 +1,49 @@
--- Three stores put a corner on top of those known, and what is known then is in order.
+-- A corner between the present one and those known is known with them: what is known then is in order.
 -- Assumes nothing.
-use mathlib.Core.Path.{◌≡◌, ap, ◌∙◌}
-use mathlib.Core.List.{List}
-use lib.ListN.{length, get_or, set, length-set}
-use lib.Seq.{get_or-set_same, get_or-set_other}
-use Prim.Native.Nat.{ℕ, ◌+◌, ◌*◌, ◌≤◌, ◌<◌}
-use native.Mathlib.Omega.{arith}
+use Rattle.std.proofs.Common.{◌≡◌, ap, ℕ, ◌-◌, ◌≤◌, ◌<◌, arith}
 use native.Mathlib.Decide.{dec_le}
-use borrow.Author.Count.{below_more}
 use Rattle.block.specs.Block.{Block}
 use Rattle.corners.specs.Pair.{Pair}
 use Rattle.corners.specs.Corner.{Corner}
-use Rattle.corners.specs.Listed.{entry}
-use Rattle.corners.proofs.Corners.{pair_path}
 use Rattle.attained.specs.Attained.{Attained, Smallest}
-use Rattle.ways.specs.Known.{most_known, Known}
-use Rattle.ways.specs.Looking.{Remembered}
+use Rattle.attained.specs.Chosen.{chosen_at, pair_in, pair_at}
+use Rattle.forward.specs.declared.Chosen.{Chosen}
+use Rattle.ways.specs.declared.Route.{Route}
+use Rattle.ways.specs.Known.{Known}
+use Rattle.ways.specs.Looking.{nearest, Remembered}
 
-module _ (far : List ℕ) (top : ℕ) (W : Pair) (keep at : ℕ) (long : length far ≡ 3 * most_known) (high : at < most_known) where
-  abbrev with_bits : List ℕ
-  with_bits = set far (3 * at) W.bits
+-- What holds of each number below the last and of the last.
+below_last : (P : ℕ → Type 0) (n : ℕ) → ((j : ℕ) → j < n - 1 → P j) → P (n - 1) → (j : ℕ) → j < n → P j
+below_last P n low last j h = go (dec_le (n - 1) j)
+  where
+    go : Dec (n - 1 ≤ j) → P j
+    go (no l) = low j (omega arith)
+    go (yes l) = let e : j ≡ n - 1 = omega arith in rw e last
 
-  abbrev with_error : List ℕ
-  with_error = set with_bits (3 * at + 1) W.error
+module _ {B : Block} {C : Pair} {before after : Route} {w : Chosen} (k : Known B C before.height before.known) (m : Remembered before w after)
+    (c : Corner (Attained B) (pair_in w)) (s : Smallest B (pair_in w) w.keep) (beyond : C.bits < (pair_in w).bits)
+    (nearer : (pair_in w).bits < (nearest before).bits) where
+  last_bits : (pair_at after.known (after.height - 1)).bits ≡ (pair_in w).bits
+  last_bits = ap (λ (x : Chosen). x.bits.0) m.corner
 
-  abbrev after : List ℕ
-  after = set with_error (3 * at + 2) keep
+  below : (j : ℕ) → j < after.height - 1 → (pair_in w).bits < (pair_at after.known j).bits
+  below j h = rw (m.rest j h) (go (dec_le (before.height - 1) j))
+    where
+      go : Dec (before.height - 1 ≤ j) → (pair_in w).bits < (pair_at before.known j).bits
+      go (yes l) = let e : j ≡ before.height - 1 = omega (arith, m.within) in rw e nearer
+      go (no l) = omega (arith, nearer, k.falling j (before.height - 1) (omega arith) (omega (arith, k.some)))
 
-  -- The later two stores are above the first.
-  first : (k : ℕ) → k < 3 * at + 1 → get_or after k 0 ≡ get_or with_bits k 0
-  first k h = get_or-set_other with_error (3 * at + 2) k keep 0 (omega arith) ∙ get_or-set_other with_bits (3 * at + 1) k W.error 0 (omega arith)
-
-  bits_at : get_or after (3 * at) 0 ≡ W.bits
-  bits_at = first (3 * at) (omega arith) ∙ get_or-set_same far (3 * at) W.bits 0 (omega arith)
-
-  error_at : get_or after (3 * at + 1) 0 ≡ W.error
-  error_at =
-      get_or-set_other with_error (3 * at + 2) (3 * at + 1) keep 0 (omega arith)
-      ∙ get_or-set_same with_bits (3 * at + 1) W.error 0 (simp length-set (omega arith))
-
-  pub remembered : 0 < at → at ≤ top + 1 → Remembered far top W keep at after
-  remembered low within = record {
-    above = low;
-    most = high;
-    within = within;
-    long = simp length-set;
-    corner = pair_path (entry after at) W bits_at error_at;
-    keep_is = get_or-set_same with_error (3 * at + 2) keep 0 (simp length-set (omega arith));
-    rest = λ k h. first k (omega arith) ∙ get_or-set_other far (3 * at) k W.bits 0 (omega arith);
+  pub known_more : Known B C after.height after.known
+  known_more = record {
+    some = omega (arith, m.above);
+    most = m.most;
+    corner = below_last (λ (j : ℕ). Corner (Attained B) (pair_at after.known j)) after.height
+        (λ j h. rw (m.rest j h) (k.corner j (omega (arith, m.within)))) (rw m.corner c);
+    beyond = below_last (λ (j : ℕ). C.bits < (pair_at after.known j).bits) after.height
+        (λ j h. omega (arith, beyond, below j h)) (omega (arith, beyond, last_bits));
+    falling = λ j i h l. below_last (λ (i : ℕ). j < i → (pair_at after.known i).bits < (pair_at after.known j).bits) after.height
+        (λ i l h. rw (m.rest i l, m.rest j (omega arith)) (k.falling j i h (omega (arith, m.within))))
+        (λ h. omega (arith, last_bits, below j h)) i l h;
+    keep = below_last (λ (j : ℕ). Smallest B (pair_at after.known j) (chosen_at after.known j).keep) after.height
+        (λ j h. rw (m.rest j h) (k.keep j (omega (arith, m.within)))) (rw m.corner s);
   }
-
-module _ {B : Block} {C W : Pair} {far after : List ℕ} {top keep at : ℕ}
-    (k : Known B C (top + 1) far) (m : Remembered far top W keep at after) where
-  same : (j : ℕ) → j < at → entry after j ≡ entry far j
-  same j h = pair_path (entry after j) (entry far j) (m.rest (3 * j) (omega arith)) (m.rest (3 * j + 1) (omega arith))
-
-  module _ (c : Corner (Attained B) W) (s : Smallest B W keep) (beyond : C.bits < W.bits) (nearer : W.bits < (entry far top).bits) where
-    below : (j : ℕ) → j < at → W.bits < (entry after j).bits
-    below j h = rw (m.rest (3 * j) (omega arith)) (go (dec_le top j))
-      where
-        go : Dec (top ≤ j) → W.bits < (entry far j).bits
-        go (yes l) = let e : j ≡ top = omega (arith, m.within) in rw e nearer
-        go (no l) = omega (arith, nearer, k.falling j top (omega arith) (omega arith))
-
-    -- What is known with `W` on top.
-    pub known_more : Known B C (at + 1) after
-    known_more = record {
-      some = omega arith;
-      most = omega (arith, m.most);
-      long = m.long ∙ k.long;
-      corner = below_more (λ (j : ℕ). Corner (Attained B) (entry after j)) at
-          (λ j h. rw (same j h) (k.corner j (omega (arith, m.within)))) (rw m.corner c);
-      beyond = below_more (λ (j : ℕ). C.bits < (entry after j).bits) at
-          (λ j h. omega (arith, beyond, below j h)) (omega (arith, beyond, top_bits));
-      falling = λ j i h l. below_more (λ (i : ℕ). j < i → (entry after i).bits < (entry after j).bits) at
-          (λ i l h. rw (m.rest (3 * i) (omega arith), m.rest (3 * j) (omega arith)) (k.falling j i h (omega (arith, m.within))))
-          (λ h. omega (arith, top_bits, below j h)) i l h;
-      keep = below_more (λ (j : ℕ). Smallest B (entry after j) (get_or after (3 * j + 2) 0)) at
-          (λ j h. rw (same j h, m.rest (3 * j + 2) (omega arith)) (k.keep j (omega (arith, m.within)))) (rw (m.corner, m.keep_is) s);
-    }
-      where
-        top_bits : (entry after at).bits ≡ W.bits
-        top_bits = ap (λ (P : Pair). P.bits) m.corner

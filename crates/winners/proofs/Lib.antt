@@ -1,3 +1,6 @@
-pub mod Stored
-pub mod Turns
+pub mod Adding
+pub mod Winning
+pub mod Storing
 pub mod Told
+pub mod Lent
+pub mod Sums

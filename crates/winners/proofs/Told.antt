@@ -1,25 +1,17 @@
--- What an outcome tells by its case.
--- Assumes nothing.
-use mathlib.Core.Path.{◌≡◌}
-use mathlib.Core.List.{List}
-use Prim.Native.Nat.{ℕ}
-use native.Mathlib.Omega.{arith}
+-- What an outcome tells by its case: the first block without a codable choice, or the winners and what they come to.
+use Rattle.std.proofs.Common.{◌≡◌, Ok, Err, ℕ, List}
 use Rattle.block.specs.Block.{Block}
-use Rattle.price.specs.declared.Bits.{Bits}
-use Rattle.price.specs.declared.Error.{Error}
-use Rattle.corners.specs.Still.{total}
+use Rattle.forward.specs.declared.Chosen.{Chosen}
 use Rattle.attained.specs.Uncodable.{FirstUncodable}
-use Rattle.winners.specs.declared.Outcome.{Outcome}
-use Rattle.winners.specs.declared.Outcome.TheVariants as outcome
-use Rattle.winners.specs.Winners.{pair_at, Winners, Outcomes, all, uncodable}
+use Rattle.answers.specs.declared.Point.{Point}
+use Rattle.winners.specs.declared.Uncodable.{Uncodable}
+use Rattle.winners.specs.Winners.{Winners, Sums, Outcomes, all, uncodable}
 
-module _ {B : ℕ → Block} {n a b : ℕ} {bits error keep : List ℕ} {r : Outcome} where
-  pub told_uncodable : {i : ℕ} → Outcomes B n a b bits error keep r → r ≡ outcome.Uncodable i → FirstUncodable B n i
-  told_uncodable (all w e) f = let z : ◌≡◌ {A = ℕ} 0 1 = cc in absurd (omega arith)
-  told_uncodable {i} (uncodable j u e) f = let k : j ≡ i = cc in rw k at u
+module _ {B : ℕ → Block} {n a b : ℕ} {each : List Chosen} where
+  pub told_uncodable : {u : Uncodable} → Outcomes B n a b each (Err u) → FirstUncodable B n u.block
+  told_uncodable (all p w s e) = cc
+  told_uncodable {u} (uncodable j f e) = let k : j ≡ u.block = cc in rw k at f
 
-  pub told_all : {x : Bits} {y : Error} → Outcomes B n a b bits error keep r → r ≡ outcome.All x y
-      → Winners B n a b bits error keep
-      × (x ≡ record { 0 = (total (pair_at bits error) n).bits }) × (y ≡ record { 0 = (total (pair_at bits error) n).error })
-  told_all (all w e) f = (w, cc, cc)
-  told_all (uncodable j u e) f = let z : ◌≡◌ {A = ℕ} 0 1 = cc in absurd (omega arith)
+  pub told_winners : {p : Point} → Outcomes B n a b each (Ok p) → Winners B n a b each × Sums each n p
+  told_winners {p} (all q w s e) = let k : q ≡ p = cc in (w, rw k at s)
+  told_winners (uncodable j f e) = cc

@@ -1,68 +1,70 @@
-// The best choices of all blocks of a still at a price.
-
+//! The best choices of all blocks of a still at a price, and what they come to together.
 #![tactic(auto)]
 
-ghost use Rattle.std.specs.Prelude.{◌/◌, ◌≤◌, length};
-ghost use Rattle.price.specs.Price.{Accepted};
-ghost use Rattle.attained.specs.Attained.{block_at};
-ghost use Rattle.still.specs.Sound.{Sound};
-ghost use Rattle.winners.specs.Winners.{Outcomes};
+ghost use Rattle.std.specs.Prelude.{◌≡◌, ◌≤◌, length, map, take};
+ghost use Rattle.answers.specs.declared.Kind.TheVariants.{Uncodable as UncodableKind};
+ghost use Rattle.still.specs.Blocks.{block_in, count_of};
+ghost use Rattle.winners.specs.Winners.{Addable, Outcomes, Sums};
 
-use forward::Decision;
+use answers::{Kind, Point, Refusal};
+use forward::Chosen;
 use price::{Bits, Error, Price};
+use search::Search;
 
-// The bits and the error of all blocks together, or the first block that has no codable choice.
-#[derive(Clone, Copy)]
-pub enum Outcome {
-    All(Bits, Error),
-    Uncodable(usize),
+/// The first block of a still that has no codable choice.
+#[derive(Clone, Copy, Debug, PartialEq, Eq)]
+pub struct Uncodable {
+    pub block: usize,
 }
 
-// Stores the bits, the error and the keep number of each block's best choice.
-pub fn winners(
-    levels: &[i16],
-    steps: &[u8],
-    lengths: &[u8],
-    price: Price,
-    bits: &mut [u64],
-    error: &mut [u64],
-    keep: &mut [u64],
-) -> Outcome
-    requires still { Sound levels.now steps.now lengths.now (length levels.now / 64) }
-    requires price { Accepted price.a price.b }
-    requires room { (length levels.now / 64 ≤ length bits.old) × (length levels.now / 64 ≤ length error.old) × (length levels.now / 64 ≤ length keep.old) }
-    ensures { Outcomes (block_at levels.now steps.now lengths.now) (length levels.now / 64) price.a price.b bits.new error.new keep.new result }
-{
-    let mut table = [0u64; 704];
-    let full = search::bit_table(lengths, &mut table);
-    let mut place = [0usize; 64];
-    let mut size = [0usize; 64];
-    let mut drop = [0u64; 64];
-    let mut cost = [0u64; 64];
-    let mut sum = [0u64; 64];
-    let mut pred = [0usize; 64];
-    let n = levels.len() / 64;
-    let mut all_bits = 0u64;
-    let mut all_error = 0u64;
-    let mut i = 0;
-    while i < n {
-        let block = &levels[64 * i..64 * i + 64];
-        match search::decide(
-            block, steps, price, full, &table, &mut place, &mut size, &mut drop, &mut cost,
-            &mut sum, &mut pred,
-        ) {
-            Decision::Nothing => {
-                return Outcome::Uncodable(i);
-            }
-            Decision::Best(c) => {
-                bits[i] = c.bits.0;
-                error[i] = c.error.0;
-                keep[i] = c.keep;
-                all_bits += c.bits.0;
-                all_error += c.error.0;
-            }
-        }
-        i += 1;
+impl From<Uncodable> for Refusal {
+    ghost from_gives = { λ uncodable r. r ≡ record { kind = UncodableKind; first = uncodable.block; second = 0 } };
+
+    fn from(uncodable: Uncodable) -> Refusal {
+        Refusal::new(Kind::Uncodable, uncodable.block as u64)
     }
-    Outcome::All(Bits(all_bits), Error(all_error))
+}
+
+/// The bits, the error and the kept coefficients of choices together.
+pub fn together(each: &[Chosen]) -> Point
+    requires { Addable each.now }
+    ensures { Sums each.now (length each.now) result }
+{
+    let mut point = Point {
+        bits: Bits(0),
+        error: Error(0),
+        kept: 0,
+    };
+    for choice in each {
+        point.bits = point.bits + choice.bits;
+        point.error = point.error + choice.error;
+        point.kept += u64::from(choice.keep.count_ones());
+    }
+    point
+}
+
+/// Stores each block's best choice at a price, in the first places, and returns what they come to; or the first block without one.
+pub fn winners(search: &mut Search, price: Price, each: &mut [Chosen]) -> Result<Point, Uncodable>
+    requires { count_of search.old.still ≤ length each.old }
+    ensures outcomes { Outcomes (block_in search.old.still) (count_of search.old.still) price.a price.b each.new result }
+    ensures still { search.new.still ≡ search.old.still }
+    ensures count { length each.new ≡ length each.old }
+{
+    let n = search.still.len();
+    for i in 0..n {
+        let best = search.best(i, price).ok_or(Uncodable { block: i })?;
+        each[i] = best;
+    }
+    Ok(together(&each[..n]))
+}
+
+/// Stores the keep numbers of the first choices, one a block.
+pub fn store(each: &[Chosen], keep: &mut [u64])
+    requires { length keep.old ≤ length each.now }
+    ensures { keep.new ≡ map (λ choice. choice.keep) (take (length keep.old) each.now) }
+{
+    // By the index, since a loop over a zip that writes tells nothing of what it has written.
+    for (i, slot) in keep.iter_mut().enumerate() {
+        *slot = each[i].keep;
+    }
 }

@@ -1,19 +1,23 @@
--- `headend::store` meets its contract: each byte that is stored is the next one of the keep numbers.
+-- `headend::store` meets its contract: the bytes of each number stand behind those of the numbers before it.
 -- Assumes nothing.
-use mathlib.Core.Path.{sym, ◌∙◌}
-use Prim.Native.Nat.{◌*◌, ◌<◌}
-use native.Mathlib.Omega.{arith}
-use lib.ListN.{length}
-use Rattle.packet.proofs.Filled.{stored, done}
-use Rattle.headend.proofs.Bytes.{bytes_long, bytes_at}
+use Rattle.std.proofs.Common.{◌≡◌, ◌+◌, ◌*◌, length, take, sym, ap, ◌∙◌, arith}
+use Rattle.std.proofs.lemmas.List.{take_all}
+use Rattle.std.proofs.lemmas.Slice.{take-put_mid}
+use Rattle.headend.specs.HeadEnd.{bytes_of}
+use Rattle.headend.proofs.Bytes.{no_bytes, bytes_more}
 use Rattle.headend.proofs.store.Goals as goal
+
+pub loop-i-init : goal.loop-i-init
+loop-i-init c = sym no_bytes
 
 pub loop-i-preserved : goal.loop-i-preserved
 loop-i-preserved c =
-    let numbers = c.args.numbers.now in
-    let i = c.loop-i.i in
-    let h : i < 8 * length numbers = omega arith in
-    stored h c.loop-i.invariant (c.byte_at.ensures ∙ sym (bytes_at numbers i h))
+    let l = c.loop-i in
+    let e = c.copy_from_slice.ensures.after ∙ c.to_be_bytes.ensures in
+    take-put_mid (8 * l.i) _ l.keep c.copy_from_slice.new.self (8 * (l.i + 1)) (omega (arith, ap length e)) (omega arith) ∙ rw (l.invariant, e) (sym (bytes_more c.args.numbers.now l.i (omega arith)))
 
 pub returns : goal.returns
-returns c = done (omega arith) c.loop-i.invariant (bytes_long c.args.numbers.now)
+returns c =
+    let l = c.loop-i in
+    let all : take (8 * l.i) l.keep ≡ l.keep = take_all _ l.keep (omega arith) in
+    sym all ∙ l.invariant ∙ ap bytes_of (take_all _ c.args.numbers.now (omega arith))

@@ -1,24 +1,14 @@
--- `list_job::list` meets its contract: the corners of what no check refuses are listed, and what one refuses is left.
+-- The corners of what no check refuses are listed, and what one refuses is left.
 -- Assumes nothing.
-use mathlib.Core.Path.{◌≡◌, refl, sym, ap, ◌∙◌}
-use lib.ListN.{length}
-use Rattle.answers.specs.Said.{fine, said_check}
-use Rattle.still.specs.Refusals.{list_verdict}
-use Rattle.still.proofs.Fine.{list_verdict_fine}
-use Rattle.list_job.specs.ListJob.{refuses, answers}
+use Rattle.std.proofs.Common.{refl, sym}
+use Rattle.list_job.specs.ListJob.{ListMeets.refuses, ListMeets.answers}
+use Rattle.list_job.proofs.Finding.{said_err, lists_lent}
 use Rattle.list_job.proofs.list.Goals as goal
-use Rattle.list_job.proofs.list.Goals.{In-Fine}
 
--- what no refusal leaves
-fine_told : (c : In-Fine)
-    → list_verdict c.args.levels.now c.args.steps.now c.args.lengths.now (length c.args.list.now) ≡ fine
-fine_told c = sym c.check_list.ensures ∙ ap said_check c.in-Fine.is
+pub returns-in_err-still : goal.returns-in_err-still
+returns-in_err-still c = refuses _ _ _ (sym c.in_err-still.ensures.told) (said_err _ _ c.from_residual.ensures.1) refl
 
-pub list_still-requires : goal.list_still-requires
-list_still-requires c = record { still = (list_verdict_fine _ _ _ _ (fine_told (goal.at.list_still-requires c).In-Fine)).0 }
-
-pub returns-in-Refused : goal.returns-in-Refused
-returns-in-Refused c = refuses _ _ _ (sym c.check_list.ensures ∙ ap said_check c.in-Refused.is) refl refl
-
-pub returns-in-Fine : goal.returns-in-Fine
-returns-in-Fine c = answers (fine_told (goal.at.returns-in-Fine c).In-Fine) c.list_still.ensures
+pub returns : goal.returns
+returns c =
+    let lent = c.in_ok-still.ensures.lent in
+    answers (sym c.in_ok-still.ensures.told) (lists_lent c.in_ok-still.still lent.0 lent.1 lent.2 c.list_still.ensures)

@@ -1,26 +1,22 @@
--- `list_job::list_still` meets its contract: nothing is stored before the count is known to fit.
+-- Nothing is stored before the count is known to fit.
 -- Assumes nothing.
-use mathlib.Core.Path.{refl}
-use native.Mathlib.Omega.{arith}
-use Rattle.list_job.proofs.Finding.{found_none, found_all, too_short, stored_seen, stored_again}
-use Rattle.list_job.specs.ListJob.{uncodable}
+use Rattle.std.proofs.Common.{refl, ℕ, arith}
+use Rattle.std.proofs.lemmas.List.{length-replicate}
+use Rattle.list_job.specs.ListJob.{Lists.uncodable}
+use Rattle.list_job.proofs.Finding.{said_err, ends_codable, too_short, stored_seen, stored_again}
 use Rattle.list_job.proofs.list_still.Goals as goal
 
-pub returns-then-list-n : goal.returns-then-list-n
-returns-then-list-n c =
-    let f = found_all c.find_corners.ensures c.in-Corners.is in
-    too_short f.0 f.1 c.if-list-n.true c.refused-then-list-n.ensures
+pub returns-then-count-le-REMEMBERED : goal.returns-then-count-le-REMEMBERED
+returns-then-count-le-REMEMBERED c =
+    rw c.copy_from_slice.ensures.after (stored_seen (ends_codable c.in_ok-find_ends.ensures.ends) c.walk_all-count.ensures
+    (omega (arith, c.if-count-le-REMEMBERED.true, length-replicate {A = ℕ} 12288 0)) (omega (arith, c.if-list-count.false)) refl)
 
-pub returns-then-n-le-REMEMBERED : goal.returns-then-n-le-REMEMBERED
-returns-then-n-le-REMEMBERED c =
-    let f = found_all c.find_corners.ensures c.in-Corners.is in
-    let w = c.copy_first in
-    stored_seen f.0 f.1 (omega (arith, c.if-n-le-REMEMBERED.true)) c.if-list-n.false w.auto.to w.ensures.copied w.ensures.behind refl
+pub returns-else-count-le-REMEMBERED : goal.returns-else-count-le-REMEMBERED
+returns-else-count-le-REMEMBERED c =
+    stored_again (ends_codable c.in_ok-find_ends.ensures.ends) c.walk_all-count.ensures (omega (arith, c.if-list-count.false)) c.walk_all.ensures refl
 
-pub returns-in-Uncodable : goal.returns-in-Uncodable
-returns-in-Uncodable c = uncodable _ (found_none c.find_corners.ensures c.in-Uncodable.is) c.refused.ensures refl
+pub returns-then-list-count : goal.returns-then-list-count
+returns-then-list-count c = too_short (ends_codable c.in_ok-find_ends.ensures.ends) c.walk_all-count.ensures c.if-list-count.true (rw c.new.ensures refl)
 
-pub returns-else-n-le-REMEMBERED : goal.returns-else-n-le-REMEMBERED
-returns-else-n-le-REMEMBERED c =
-    let f = found_all c.find_corners.ensures c.in-Corners.is in
-    stored_again f.0 f.1 c.if-list-n.false c.find_corners-in-Corners.ensures refl
+pub returns-in_err-find_ends : goal.returns-in_err-find_ends
+returns-in_err-find_ends c = uncodable c.in_err-find_ends.field-0.0.block c.in_err-find_ends.ensures.uncodable (said_err _ _ c.from_residual.ensures.1) refl

@@ -1,45 +1,16 @@
--- `list_job::walk_all` meets its contract: the blocks set out from their first corners, and the walk begins there.
+-- Where the blocks set out they are at the first corner.
 -- Assumes nothing.
-use mathlib.Core.Path.{refl, sym}
-use native.Mathlib.Omega.{arith}
+use Rattle.std.proofs.Common.{◌∙◌, subst}
+use Rattle.still.specs.declared.Still.{Still}
+use Rattle.still.specs.Blocks.{count_of, block_in}
+use Rattle.walk.specs.Written.{Walked}
+use Rattle.list_job.proofs.Finding.{at_first}
 use Rattle.list_job.proofs.walk_all.Goals as goal
 
-pub set_out-p-requires : goal.set_out-p-requires
-set_out-p-requires c =
-    let p = c.requires in
-    let n = p.still.still.most in record {
-      task = record { sound = p.still; made = c.bit_table-full.ensures; low_most = omega arith };
-      ends = p.ends.ends;
-      setting = record {
-        run_long = n;
-        fall_long = n;
-        height_long = n;
-        far_long = omega (arith, n);
-        gathered = record { first = refl; second = refl; third = refl };
-        searched = record { first = refl; second = refl; third = refl };
-      };
-      n_in_bounds = omega (arith, n);
-    }
-
-pub slice_bounds-list_corners-end : goal.slice_bounds-list_corners-end
-slice_bounds-list_corners-end c = sym c.bit_table-full.auto.bits
-
 pub list_corners-requires : goal.list_corners-requires
-list_corners-requires c =
-    let p = c.requires in
-    let s = c.set_out-p in
-    let o = s.ensures.standing in record {
-      task = record { sound = p.still; made = c.bit_table-full.ensures; low_most = omega arith };
-      room = record { first = s.auto.place; second = s.auto.size; third = s.auto.drop };
-      room_2 = record { first = s.auto.cost; second = s.auto.sum; third = s.auto.pred };
-      first = record { a = o.a; b = o.b; standing = o.standing; sums = s.ensures.sums; least = p.ends.least };
-    }
+list_corners-requires c = at_first (c.new-course.ensures ∙ c.new.ensures) c.requires c.set_out.ensures.set_out
 
-pub shape_of-cb : goal.shape_of-cb
-shape_of-cb c = c.list_corners.auto.cb
-
-pub shape_of-ce : goal.shape_of-ce
-shape_of-ce c = c.list_corners.auto.ce
-
-pub shape_of-ck : goal.shape_of-ck
-shape_of-ck c = c.list_corners.auto.ck
+pub returns : goal.returns
+returns c =
+    subst (λ (s : Still). Walked (block_in s) (count_of s) c.args.out.now c.list_corners.result c.list_corners.new.out)
+    (c.set_out.ensures.set_out.still_is ∙ c.new-course.ensures ∙ c.new.ensures) c.list_corners.ensures

@@ -1,37 +1,19 @@
--- `list_text::list_packed` meets its contract: a packet has at most 256 blocks, so that its levels have room.
+-- `list_text::list_packed` meets its contract: the packet's own check comes first, and the list job runs on what it holds.
 -- Assumes nothing.
-use mathlib.Core.Path.{refl, sym, ap, ◌∙◌}
-use Prim.Native.Nat.{ℕ, ◌*◌, ◌≤◌}
-use native.Mathlib.Omega.{arith}
-use lib.Seq.{length-take-le}
-use Rattle.packet.proofs.Packed.{blocks_most, fine_long}
+use Rattle.std.proofs.Common.{ap, length}
+use Rattle.std.proofs.lemmas.Result.{err_from_is_err_and}
+use Rattle.list_text.proofs.Telling.{refused_prints, told_prints, places}
 use Rattle.list_text.proofs.list_packed.Goals as goal
-use Rattle.list_text.proofs.list_packed.Goals.{After-blocks-long}
 
-pub blocks-long-requires : goal.blocks-long-requires
-blocks-long-requires c = omega (arith, fine_long _ c.requires.well)
+pub returns-clause-prints : goal.returns-clause-prints
+returns-clause-prints c =
+    let p = told_prints c.in_ok-packet.packet.well c.levels-levels.ensures c.steps.ensures c.lengths.ensures c.requires c.list.ensures in
+    rw c.in_ok-packet.ensures.same at p
 
--- a packet has no more levels than 256 blocks
-enough : (c : After-blocks-long) → 64 * c.blocks-long.result ≤ 16384
-enough c = omega (arith, c.blocks-long.ensures, blocks_most c.args.packet.now)
+pub returns-clause-places : goal.returns-clause-places
+returns-clause-places c = places c.list.ensures (ap length c.requires)
 
-pub overflow_mul-long : goal.overflow_mul-long
-overflow_mul-long c = omega (arith, enough c)
-
-pub slice_bounds-levels-end : goal.slice_bounds-levels-end
-slice_bounds-levels-end c = enough c
-
-pub slice_bounds-list_still-end : goal.slice_bounds-list_still-end
-slice_bounds-list_still-end c = sym (length-take-le _ _ (enough (goal.at.slice_bounds-list_still-end c).After-blocks-long))
-
-pub list_still-requires : goal.list_still-requires
-list_still-requires c =
-    let p = c.requires in record {
-      still = record {
-        well = p.well;
-        levels_long = length-take-le _ _ (enough (goal.at.list_still-requires c).After-blocks-long) ∙ ap (λ (n : ℕ). 64 * n) c.blocks-long.ensures;
-        steps_long = refl;
-        lengths_long = refl;
-      };
-      room = p.room;
-    }
+pub returns-in_err-packet-clause-prints : goal.returns-in_err-packet-clause-prints
+returns-in_err-packet-clause-prints c =
+    let p = err_from_is_err_and c.from_residual.result c.from_residual.ensures.1 in
+    rw (p.1, p.2) (refused_prints c.args.list.now _ c.in_err-packet.ensures.told)

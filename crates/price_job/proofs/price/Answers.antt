@@ -1,29 +1,30 @@
 -- `price_job::price` meets its contract: what no check refuses is decided, and what one refuses is left.
--- Assumes nothing.
-use mathlib.Core.Path.{◌≡◌, refl, sym, ap, ◌∙◌}
-use lib.ListN.{length}
-use Rattle.answers.specs.Said.{fine, said_check}
-use Rattle.still.specs.Refusals.{price_verdict}
-use Rattle.still.proofs.Fine.{price_verdict_fine}
-use Rattle.price_job.specs.PriceJob.{refuses, prices}
+use Rattle.std.proofs.Common.{◌≡◌, Err, Ok, refl, sym, ap, rules, arith, length, ℕ}
+use Rattle.block.specs.Block.{Block}
+use Rattle.answers.specs.declared.Kind.TheVariants.{Uncodable}
+use Rattle.answers.specs.Said.{said_point}
+use Rattle.winners.proofs.Lent.{lent_blocks}
+use Rattle.winners.proofs.Told.{told_uncodable}
+use Rattle.price_job.specs.PriceJob.{Priced, uncodable, refuses, prices}
+use Rattle.price_job.proofs.Deciding.{winners_priced}
 use Rattle.price_job.proofs.price.Goals as goal
-use Rattle.price_job.proofs.price.Goals.{In-Fine}
 
--- what no refusal leaves
-fine_told : (c : In-Fine)
-    → price_verdict c.args.levels.now c.args.steps.now c.args.lengths.now c.args.a c.args.b (length c.args.keep.now) ≡ fine
-fine_told c = sym c.check_price.ensures ∙ ap said_check c.in-Fine.is
+pub returns-in_err-point : goal.returns-in_err-point
+returns-in_err-point c =
+    let e : c.from_residual-in_err-point.result ≡ Err (record { kind = Uncodable; first = c.in_err-point.field-0.0.block; second = 0 }) = search rules in
+    prices (sym c.in_ok-still.ensures.told)
+    (lent_blocks c.in_ok-still.still (λ (B : ℕ → Block) (n : ℕ). Priced B n c.args.a c.args.b c.args.keep.now c.from_residual-in_err-point.result c.args.keep.now)
+    c.in_ok-still.ensures.lent
+    (uncodable c.in_err-point.field-0.0.block (told_uncodable (rw c.new-search.ensures at c.in_err-point.ensures.outcomes)) (ap said_point e) refl))
 
-pub returns-in-Fine : goal.returns-in-Fine
-returns-in-Fine c = prices (fine_told (goal.at.returns-in-Fine c).In-Fine) c.decide.ensures
+pub returns : goal.returns
+returns c =
+    prices (sym c.in_ok-still.ensures.told)
+    (lent_blocks c.in_ok-still.still (λ (B : ℕ → Block) (n : ℕ). Priced B n c.args.a c.args.b c.args.keep.now (Ok c.in_ok-point.point) c.store.new.keep)
+    c.in_ok-still.ensures.lent
+    (winners_priced (rw (c.new-search.ensures, c.in_ok-still.ensures.price.0, c.in_ok-still.ensures.price.1) at c.in_ok-point.ensures.outcomes) (omega (arith, c.in_ok-still.ensures.room, ap length c.in_ok-still.ensures.lent.0)) (omega arith) c.store.auto.keep c.store.ensures))
 
-pub decide-requires : goal.decide-requires
-decide-requires c =
-    let f = price_verdict_fine _ _ _ _ _ _ (fine_told (goal.at.decide-requires c).In-Fine) in record {
-      still = f.0;
-      price = f.1;
-      room = f.2;
-    }
-
-pub returns-in-Refused : goal.returns-in-Refused
-returns-in-Refused c = refuses _ _ _ (sym c.check_price.ensures ∙ ap said_check c.in-Refused.is) refl refl
+pub returns-in_err-still : goal.returns-in_err-still
+returns-in_err-still c =
+    let e : c.from_residual.result ≡ Err c.in_err-still.field-0.0 = search rules in
+    refuses _ _ _ (sym c.in_err-still.ensures.told) (ap said_point e) refl

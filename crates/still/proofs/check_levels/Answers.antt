@@ -1,21 +1,12 @@
--- `still::check_levels` meets its contract: the tests that led to each answer say which part of the condition holds.
+-- `still::check_levels` meets its contract: blocks that leave no rest are the levels.
 -- Assumes nothing.
-use borrow.Author.Tests.{eq-eqb, ne_eqb, lt-ltb, le-ltb}
-use Rattle.still.specs.Refusals.{levels_check}
+use Rattle.std.proofs.Common.{◌≡◌, ◌/◌, length, sym, ap, ◌∙◌, arith}
+use Rattle.std.proofs.lemmas.Bool.{eqb-true}
+use Rattle.still.specs.Passed.{levels_in}
+use Rattle.still.proofs.Cut.{levels_in-chunks}
 use Rattle.still.proofs.check_levels.Goals as goal
 
-pub returns-then-n-count : goal.returns-then-n-count
-unfolding levels_check
-returns-then-n-count c = simp (c.refused.ensures, ne_eqb _ _ c.if-n-count.true)
-
-pub returns-then-n-lt1 : goal.returns-then-n-lt1
-unfolding levels_check
-returns-then-n-lt1 c = simp (c.refused-then-n-lt1.ensures, eq-eqb _ _ c.if-n-count.false, lt-ltb _ _ c.if-n-lt1.true)
-
-pub returns-then-n-gt-MOST_BLOCKS : goal.returns-then-n-gt-MOST_BLOCKS
-unfolding levels_check
-returns-then-n-gt-MOST_BLOCKS c = simp (c.refused-then-n-gt-MOST_BLOCKS.ensures, eq-eqb _ _ c.if-n-count.false, le-ltb _ _ c.if-n-lt1.false, lt-ltb _ _ c.if-n-gt-MOST_BLOCKS.true)
-
-pub returns : goal.returns
-unfolding levels_check
-returns c = simp (eq-eqb _ _ c.if-n-count.false, le-ltb _ _ c.if-n-lt1.false, le-ltb _ _ c.if-n-gt-MOST_BLOCKS.false)
+pub returns-clause-same : goal.returns-clause-same
+returns-clause-same c =
+    let none : length c.as_chunks.result.1.now ≡ 0 = eqb-true _ _ (sym c.is_empty.ensures ∙ c.if-not-is_empty.false) in
+    ap levels_in c.as_chunks.ensures.front ∙ levels_in-chunks 64 (length c.args.levels.now / 64) c.args.levels.now (omega arith)

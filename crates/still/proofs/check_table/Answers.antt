@@ -1,28 +1,20 @@
--- `still::check_table` meets its contract: the count says which case holds, and at the right count the search does.
+-- `still::check_table` meets its contract: the count says which case holds, and at the right count the first index does.
 -- Assumes nothing.
-use mathlib.Core.Path.{◌≡◌, ap, ◌∙◌}
-use borrow.Author.Tests.{eq-eqb, ne_eqb, lt-ltb, le-ltb}
-use Rattle.block.specs.First.{first_below}
-use Rattle.still.specs.Refusals.{outside_at, table_check}
+use Rattle.std.proofs.Common.{sym, ◌∙◌}
+use Rattle.std.proofs.lemmas.Bool.{eq-eqb, ne_eqb}
+use Rattle.answers.specs.Said.{number_of, refuse}
+use Rattle.still.specs.Refusals.{table_check}
+use Rattle.still.proofs.First.{when_first_none, when_first_some}
 use Rattle.still.proofs.check_table.Goals as goal
-use Rattle.still.proofs.check_table.Goals.{After-first_outside-i}
 
-pub returns-then-values-count : goal.returns-then-values-count
+pub returns-then-values : goal.returns-then-values
 unfolding table_check
-returns-then-values-count c = simp (c.refused.ensures, ne_eqb _ _ c.if-values-count.true)
+returns-then-values g c = simp (c.new.ensures, ne_eqb _ _ c.if-values.true)
 
--- what the search answered, at the count
-found : (c : After-first_outside-i)
-    → c.first_outside-i.result
-    ≡ first_below (outside_at c.args.low c.args.high c.args.values.now) c.args.count
-found c =
-    let a = c.args in
-    c.first_outside-i.ensures ∙ ap (first_below (outside_at a.low a.high a.values.now)) c.if-values-count.false
-
-pub returns-then-i-count : goal.returns-then-i-count
+pub returns-in-Some : goal.returns-in-Some
 unfolding table_check
-returns-then-i-count c = simp (c.refused-then-i-count.ensures, eq-eqb _ _ c.if-values-count.false, ← found (goal.at.returns-then-i-count c).After-first_outside-i, lt-ltb _ _ c.if-i-count.true)
+returns-in-Some g c = simp (c.new-in-Some.ensures, eq-eqb _ _ c.if-values.false) (when_first_some _ _ (λ i. refuse (number_of c.args.kind) i 0) _ (rw c.if-values.false at (sym c.in-Some.is ∙ c.first_outside.ensures)))
 
-pub returns : goal.returns
+pub returns-in-None : goal.returns-in-None
 unfolding table_check
-returns c = simp (eq-eqb _ _ c.if-values-count.false, ← found (goal.at.returns c).After-first_outside-i, le-ltb _ _ c.if-i-count.false)
+returns-in-None g c = simp (eq-eqb _ _ c.if-values.false) (when_first_none _ _ (λ i. refuse (number_of c.args.kind) i 0) (rw c.if-values.false at (sym c.in-None.is ∙ c.first_outside.ensures)))

@@ -1,29 +1,27 @@
--- `still::first_bad_level` meets its contract: no index passed is bad, and the one that is answered is.
+-- `still::first_bad_level` meets its contract: the sweep says that no level is bad, or `find` which is the first.
 -- Assumes nothing.
-use borrow.Author.Rules.{rules}
-use mathlib.Core.Path.{◌≡◌, sym, ap, ◌∙◌}
-use native.Mathlib.Omega.{arith}
-use lib.Dec.{ltb}
-use lib.ListN.{length}
-use borrow.Author.Tests.{lt-ltb, le-ltb}
-use Rattle.still.specs.Refusals.{bad_level}
-use Rattle.still.proofs.Passed.{passed_more, first_past, first_next}
+use Rattle.std.proofs.Common.{◌≡◌, ℕ, zero, suc, ◌≤◌, true, false, ltb, nat_abs, List, get_or, ℤ, pos, refl, ap, rules, tests, arith}
+use Rattle.std.proofs.lemmas.Iterator.{first_from_Range}
+use Rattle.still.specs.Passed.{Passed, level_bad}
+use Rattle.still.proofs.Place.{ac_some}
+use Rattle.still.proofs.First.{first_of_none, first_of_found}
 use Rattle.still.proofs.first_bad_level.Goals as goal
-use Rattle.still.proofs.first_bad_level.Goals.{After-ac_level}
 
--- the test of the level at hand
-tested : (c : After-ac_level)
-    → bad_level c.args.levels.now c.loop-i.i ≡ ltb 1023 c.ac_level.result
-unfolding bad_level
-tested c = ap (ltb 1023) (sym c.ac_level.ensures)
+-- a DC has no range
+dc_good : (block : List ℤ) → Passed (level_bad block) 1
+unfolding level_bad
+dc_good block zero h = refl
+dc_good block (suc k) h = absurd (omega arith)
 
-pub loop-i-preserved : goal.loop-i-preserved
-loop-i-preserved c = (search rules, passed_more c.loop-i.invariant.1 (tested (goal.at.loop-i-preserved c).After-ac_level ∙ le-ltb _ _ c.if-ac_level.false))
+ac_bad : (block : List ℤ) (k : ℕ) → 1 ≤ k → level_bad block k ≡ ltb 1023 (nat_abs (get_or block k (pos 0)))
+unfolding level_bad
+ac_bad block k h = ap (ltb 1023) (ac_some block k (λ e. omega arith))
 
-pub returns-then-ac_level : goal.returns-then-ac_level
-returns-then-ac_level c = sym (first_next _ c.loop-i.invariant.1 c.loop-i-test.true (tested (goal.at.returns-then-ac_level c).After-ac_level ∙ lt-ltb _ _ c.if-ac_level.true))
+pub returns-then-any_bad_level : goal.returns-then-any_bad_level
+returns-then-any_bad_level c =
+    let b = c.args.block.now in
+    let test = λ (k : ℕ). ltb 1023 (nat_abs (get_or b k (pos 0))) in
+    first_of_found (level_bad b) 64 1 test _ (dc_good b) (ac_bad b) (first_from_Range _ _ _ _ (λ k. test k ≡ true) (λ k. test k ≡ false) c.find.ensures.ran (λ x q k. search (rules, tests)) (λ x q k. search (rules, tests)))
 
 pub returns : goal.returns
-returns c =
-    let e : c.loop-i.i ≡ length c.args.levels.now = omega arith in
-    e ∙ sym (first_past _ c.loop-i.invariant.1 (omega arith))
+returns c = first_of_none _ _ (c.any_bad_level.ensures c.if-any_bad_level.false)

@@ -1,28 +1,19 @@
--- `still::first_outside` meets its contract: every value passed is within its range, and the one that is answered is not.
+-- `still::first_outside` meets its contract: the sweep says that no value is outside, or `position` which is the first.
 -- Assumes nothing.
-use borrow.Author.Rules.{rules}
-use mathlib.Core.Path.{◌≡◌, sym, ◌∙◌}
-use native.Mathlib.Omega.{arith}
-use lib.ListN.{length}
-use borrow.Author.Tests.{lt-ltb, le-ltb}
+use Rattle.std.proofs.Common.{rules, tests, ◌∙◌}
+use Rattle.std.proofs.lemmas.Iterator.{YieldsList-from_slice}
+use Rattle.std.proofs.lemmas.Iterator.Search.{position_from_yields_List}
+use Rattle.still.specs.Passed.{outside_range}
 use Rattle.still.specs.Refusals.{outside_at}
-use Rattle.still.proofs.Passed.{passed_more, first_past, first_next}
+use Rattle.still.proofs.First.{first_of_none, position_first}
 use Rattle.still.proofs.first_outside.Goals as goal
 
-pub returns-then-values-i : goal.returns-then-values-i
+pub returns-then-any_outside : goal.returns-then-any_outside
 unfolding outside_at
-returns-then-values-i c = sym (first_next _ c.loop-i.invariant.1 c.loop-i-test.true (simp (lt-ltb _ _ c.if-values-i.true)))
-
-pub returns-then-high-values : goal.returns-then-high-values
-unfolding outside_at
-returns-then-high-values c = sym (first_next _ c.loop-i.invariant.1 c.loop-i-test.true (simp (le-ltb _ _ c.if-values-i.false, lt-ltb _ _ c.if-high-values.true)))
-
-pub loop-i-preserved : goal.loop-i-preserved
-unfolding outside_at
-loop-i-preserved c = (search rules, passed_more c.loop-i.invariant.1 (simp (le-ltb _ _ c.if-values-i.false, le-ltb _ _ c.if-high-values.false)))
+returns-then-any_outside c =
+    let a = c.args in
+    position_from_yields_List (outside_range a.low a.high) _ _ c.position.result c.position.ensures.ran (YieldsList-from_slice a.values.now cc) (λ x b q k. search (rules, tests))
+    ∙ position_first (outside_range a.low a.high) a.values.now 0
 
 pub returns : goal.returns
-returns c =
-    let i = c.loop-i.i in
-    let e : i ≡ length c.args.values.now = omega arith in
-    e ∙ sym (first_past _ c.loop-i.invariant.1 (omega arith))
+returns c = first_of_none _ _ (c.any_outside.ensures c.if-any_outside.false)

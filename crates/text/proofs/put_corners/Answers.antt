@@ -1,8 +1,8 @@
--- `text::put_corners` meets its contract: the first line and the corners' lines, joined from the start on.
+-- `text::put_corners` meets its contract: the first line and the corners' lines are the text.
 -- Assumes nothing.
-use Rattle.text.proofs.Lines.{corners_held}
+use Rattle.std.proofs.Common.{rules}
+use Rattle.text.proofs.Pieces.{corners_held}
 use Rattle.text.proofs.put_corners.Goals as goal
 
 pub returns : goal.returns
-returns c =
-    corners_held _ _ c.requires.0 c.put-number_at.ensures c.put_field-lines_at.ensures c.put_lines.ensures
+returns c = corners_held _ _ (search rules) c.put.ensures.put c.field.ensures.put (search rules)

@@ -1,31 +1,24 @@
 -- `thin_job::thin` meets its contract: what no check refuses is thinned, and what one refuses is left.
 -- Assumes nothing.
-use mathlib.Core.Path.{◌≡◌, refl, sym, ap, ◌∙◌}
-use Prim.Native.Nat.{◌*◌, ◌≤◌}
-use native.Mathlib.Omega.{arith}
-use lib.ListN.{length}
-use Rattle.answers.specs.Said.{fine, said_check}
-use Rattle.still.specs.Refusals.{thin_verdict}
+use Rattle.std.proofs.Common.{◌≡◌, ◌*◌, ◌≤◌, length, rules, refl, sym, ap, ◌∙◌, arith}
+use Rattle.answers.specs.Said.{said_check}
 use Rattle.still.proofs.Fine.{thin_verdict_fine}
 use Rattle.thin_job.specs.ThinJob.{refuses}
+use Rattle.thin_job.proofs.thin.Goals.{In_ok-check_thin}
 use Rattle.thin_job.proofs.thin.Goals as goal
-use Rattle.thin_job.proofs.thin.Goals.{In-Fine}
 
--- what no refusal leaves: the verdict, and from it the lengths
-fine_told : (c : In-Fine) → thin_verdict c.args.levels.now c.args.keep.now ≡ fine
-fine_told c = sym c.check_thin.ensures ∙ ap said_check c.in-Fine.is
-
-lengths : (c : In-Fine)
+-- what no refusal leaves: the lengths
+lengths : (c : In_ok-check_thin)
     → (length c.args.levels.now ≡ 64 * length c.args.keep.now) × (length c.args.keep.now ≤ 1024)
 lengths c =
-    let f = thin_verdict_fine c.args.levels.now c.args.keep.now (fine_told c) in
+    let f = thin_verdict_fine c.args.levels.now c.args.keep.now (sym c.check_thin.ensures ∙ ap said_check c.in_ok-check_thin.was) in
     (omega (arith, f.0.count, f.1.count), omega (arith, f.0.most, f.1.count))
 
 pub drop_levels-requires : goal.drop_levels-requires
-drop_levels-requires c = (lengths (goal.at.drop_levels-requires c).In-Fine).0
+drop_levels-requires c = (lengths (goal.at.drop_levels-requires c).In_ok-check_thin).0
 
 pub kept-requires : goal.kept-requires
-kept-requires c = (lengths (goal.at.kept-requires c).In-Fine).1
+kept-requires c = (lengths (goal.at.kept-requires c).In_ok-check_thin).1
 
-pub returns-in-Refused : goal.returns-in-Refused
-returns-in-Refused c = refuses _ _ _ (sym c.check_thin.ensures ∙ ap said_check c.in-Refused.is) refl refl
+pub returns-in_err-check_thin : goal.returns-in_err-check_thin
+returns-in_err-check_thin c = refuses _ _ _ (sym c.check_thin.ensures ∙ ap said_check c.in_err-check_thin.was) (search rules) refl

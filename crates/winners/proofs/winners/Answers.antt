@@ -1,42 +1,32 @@
--- `winners::winners` meets its contract: each turn decides one block more.
--- Assumes nothing.
-use native.Mathlib.Omega.{arith}
-use Rattle.winners.proofs.Turns.{deciding_ready, deciding_none, bits_fit, error_fits, deciding_more}
-use borrow.Author.Rules.{rules}
-use lib.ListN.{length-set}
+-- `winners::winners` meets its contract: a turn decides one block more, or its block is the first without a codable choice.
+use Rattle.std.proofs.Common.{◌≡◌, arith, rules, refl}
+use Rattle.still.specs.Blocks.{count_of}
+use Rattle.winners.specs.Winners.{all, uncodable}
+use Rattle.winners.proofs.Winning.{winners_more, first_uncodable, firsts_addable}
+use Rattle.winners.proofs.Sums.{sums_taken}
 use Rattle.winners.proofs.winners.Goals as goal
 
 pub loop-i-preserved : goal.loop-i-preserved
-loop-i-preserved c =
-    let l = c.loop-i in (
-      deciding_more l.invariant.0 c.loop-i-test.true c.decide.ensures _ c.in-Best.is,
-      search rules,
-      search rules,
-      simp length-set l.invariant.3,
-      simp length-set l.invariant.4,
-      simp length-set l.invariant.5,
-    )
+loop-i-preserved c = (
+  cc,
+  winners_more c.loop-i.invariant.1 (omega arith)
+      (rw (c.loop-i.invariant.0, c.in_ok-best.ensures.ok_part) at (c.best.ensures.decides)),
+)
 
-pub decide-requires : goal.decide-requires
-decide-requires c =
-    let l = c.loop-i in record {
-      accepted = l.invariant.0.price;
-      ready = deciding_ready l.invariant.0 c.loop-i-test.true;
-      room = l.invariant.1;
-      room_2 = l.invariant.2;
-    }
+pub returns-in_err-best-clause-outcomes : goal.returns-in_err-best-clause-outcomes
+returns-in_err-best-clause-outcomes c =
+    uncodable _
+    (first_uncodable c.loop-i.invariant.1 (omega arith)
+    (rw (c.loop-i.invariant.0, c.in_err-best.ensures.ok_part) at (c.best.ensures.decides)))
+    (search rules)
 
-pub returns-in-Nothing : goal.returns-in-Nothing
-returns-in-Nothing c =
-    let l = c.loop-i in
-    deciding_none l.invariant.0 c.loop-i-test.true c.decide.ensures c.in-Nothing.is
+pub together-requires : goal.together-requires
+together-requires c =
+    let e : c.loop-i.i ≡ c.len-n.result = omega arith in
+    firsts_addable c.args.search.now.still (omega arith) (omega arith) (rw e at c.loop-i.invariant.1)
 
-pub overflow_add-all_bits : goal.overflow_add-all_bits
-overflow_add-all_bits c =
-    let l = c.loop-i in
-    omega (arith, l.invariant.0.sound.still.most, bits_fit l.invariant.0 c.loop-i-test.true c.decide.ensures _ c.in-Best.is)
-
-pub overflow_add-all_error : goal.overflow_add-all_error
-overflow_add-all_error c =
-    let l = c.loop-i in
-    omega (arith, l.invariant.0.sound.still.most, error_fits l.invariant.0 c.loop-i-test.true c.decide.ensures _ c.in-Best.is)
+pub returns-clause-outcomes : goal.returns-clause-outcomes
+returns-clause-outcomes c =
+    let e : c.loop-i.i ≡ count_of c.args.search.now.still = omega arith in
+    let n : c.len-n.result ≡ count_of c.args.search.now.still = omega arith in
+    all _ (rw e at c.loop-i.invariant.1) (rw n at (sums_taken c.loop-i.each c.len-n.result (omega arith) c.together.ensures)) refl

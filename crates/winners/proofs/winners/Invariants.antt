@@ -1,15 +1,8 @@
-use mathlib.Core.Path.{◌≡◌}
-use Prim.Native.Nat.{◌-◌}
-use lib.ListN.{length}
-use Rattle.forward.specs.Given.{Room}
-use Rattle.winners.specs.Deciding.{Deciding}
+use Rattle.std.proofs.Common.{◌≡◌}
+use Rattle.still.specs.Blocks.{block_in}
+use Rattle.winners.specs.Winners.{Winners}
 use Rattle.winners.proofs.winners.Given as goal
 
 abbrev pub invariant-loop-i : goal.invariant-loop-i
 invariant-loop-i l =
-    Deciding l.levels l.steps l.lengths l.price.a l.price.b l.table l.full l.n l.bits l.error l.keep l.all_bits l.all_error l.i
-    × Room l.place l.size l.drop × Room l.cost l.sum l.pred
-    × (length l.bits ≡ length l.initial.bits) × (length l.error ≡ length l.initial.error) × (length l.keep ≡ length l.initial.keep)
-
-abbrev pub decreases-loop-i : goal.decreases-loop-i
-decreases-loop-i l = l.n - l.i
+    (l.search.still ≡ l.fn.search.still) × Winners (block_in l.fn.search.still) l.i l.price.a l.price.b l.each
