@@ -1,15 +1,16 @@
 //! A case's call: the job is lent what the call says, and its answer is told.
-use crate::call::{Call, Job};
+ghost use Rattle.std.specs.Iterator.{IsFinite};
+
+use crate::call::{Call, Job, LENGTHS, LEVELS, STEPS};
 use crate::tell;
 use crate::word::Word;
-use std::alloc::{AllocError, Global};
 use std::io;
 
 // Room for the longest list of the cases, and for more keep numbers than a still may have.
 const PLACES: usize = 12300;
 
 /// Tells the answer to a case; a heading has none.
-pub fn tell(rt: &impl Print, alloc: Global, case: &[u8]) -> io::Result<()> {
+pub fn tell(rt: &impl Print, case: &[u8]) -> io::Result<()> {
     let mut words = case.split(|c| *c == b' ').map(Word::from);
     let Some(name) = words.find(|word| word.letter.is_some()) else {
         return Ok(());
@@ -17,23 +18,30 @@ pub fn tell(rt: &impl Print, alloc: Global, case: &[u8]) -> io::Result<()> {
     let Some(job) = Job::named(name) else {
         return Ok(());
     };
-    let mut call = Call::sound(alloc, job)?;
+    run(rt, job, words)
+}
+
+// The answer of a job, whose call the words change. A function pays at entry for its arrays: no heading comes here.
+fn run<I: Iterator<Item = Word> + Drop>(rt: &impl Print, job: Job, words: I) -> io::Result<()>
+    requires can { I.can_next words }
+    requires ends { IsFinite (I.remaining words) }
+{
+    let mut levels = [0; LEVELS];
+    let mut steps = [0; STEPS];
+    let mut lengths = [0; LENGTHS];
+    let mut call = Call::sound(job, &mut levels, &mut steps, &mut lengths);
     for word in words {
         call.change(word);
     }
-    match job {
-        Job::Price => price(rt, &call, &mut places(alloc, &call)?),
-        Job::List => list(rt, &call, &mut places(alloc, &call)?),
-        Job::Budget(bits) => fit(rt, &call, bits, &mut places(alloc, &call)?),
-        Job::Thin => thin(rt, call),
-    }
-}
-
-// The places of a list or of a keep slice.
-fn places(alloc: Global, call: &Call) -> Result<Vec<u64>, AllocError> {
-    let mut places = vec![in alloc; 9; PLACES]?;
+    // The places of a list or of a keep slice: one array for all jobs, since each array takes its stack for itself.
+    let mut places = [9; PLACES];
     places[..3].copy_from_slice(&call.keep);
-    Ok(places)
+    match job {
+        Job::Price => price(rt, &call, &mut places),
+        Job::List => list(rt, &call, &mut places),
+        Job::Budget(bits) => fit(rt, &call, bits, &mut places),
+        Job::Thin => thin(rt, &mut call),
+    }
 }
 
 // In these four, a call for more than there is gets no answer.
@@ -69,7 +77,7 @@ fn fit(rt: &impl Print, call: &Call, budget: u32, places: &mut [u64]) -> io::Res
     tell::point(rt, said, keep)
 }
 
-fn thin(rt: &impl Print, mut call: Call) -> io::Result<()> {
+fn thin(rt: &impl Print, call: &mut Call) -> io::Result<()> {
     let (Some(levels), Some(keep)) = (call.levels.part_mut(), call.keep.get(..call.keeps)) else {
         return Ok(());
     };

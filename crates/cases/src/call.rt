@@ -4,14 +4,15 @@ ghost use Rattle.std.specs.Prelude.{◌<◌};
 use crate::word;
 use crate::word::Word;
 use block::tables;
-use std::alloc::{AllocError, Global};
 
-// One block, step or length more than a job takes.
-const LEVELS: usize = 64 * 1025;
+/// The levels of one block more than a job takes.
+pub const LEVELS: usize = 64 * 1025;
 
-const STEPS: usize = 65;
+/// One step more than a job takes.
+pub const STEPS: usize = 65;
 
-const LENGTHS: usize = 257;
+/// One length more than a job takes.
+pub const LENGTHS: usize = 257;
 
 /// A job, with its budget of bits if it has one.
 #[derive(Clone, Copy)]
@@ -37,12 +38,12 @@ impl Job {
 
 /// What may be lent, and how much of it is, which may be more than there is.
 #[derive(Drop)]
-pub struct Lent<T> {
-    pub all: Vec<T>,
+pub struct Lent<'a, T> {
+    pub all: &'a mut [T],
     pub count: usize,
 }
 
-impl<T> Lent<T> {
+impl<T> Lent<'_, T> {
     /// The part that is lent, if it is there.
     pub fn part(&self) -> Option<&[T]> {
         self.all.get(..self.count)
@@ -50,16 +51,17 @@ impl<T> Lent<T> {
 
     /// The same to be changed.
     pub fn part_mut(&mut self) -> Option<&mut [T]> {
-        self.all.as_mut_slice().get_mut(..self.count)
+        let count = self.count;
+        self.all.get_mut(..count)
     }
 }
 
 /// What a job is lent.
 #[derive(Drop)]
-pub struct Call {
-    pub levels: Lent<i16>,
-    pub steps: Lent<u8>,
-    pub lengths: Lent<u8>,
+pub struct Call<'a> {
+    pub levels: Lent<'a, i16>,
+    pub steps: Lent<'a, u8>,
+    pub lengths: Lent<'a, u8>,
     pub a: u64,
     pub b: u64,
     /// How long the list is.
@@ -78,19 +80,24 @@ pub struct Still<'a> {
     pub lengths: &'a [u8],
 }
 
-impl Call {
-    /// A still of four corners, with room for one corner more. A keep slice of odd numbers, which no choice has; but a
-    /// thinning keeps two of the still's three levels.
-    pub fn sound(alloc: Global, job: Job) -> Result<Call, AllocError> {
-        let mut levels = vec![in alloc; 0; LEVELS]?;
+impl<'a> Call<'a> {
+    /// A still of four corners, put into the arrays whatever they hold, with room for one corner more. A keep slice of odd
+    /// numbers, which no choice has; but a thinning keeps two of the still's three levels.
+    pub fn sound(
+        job: Job,
+        levels: &'a mut [i16; LEVELS],
+        steps: &'a mut [u8; STEPS],
+        lengths: &'a mut [u8; LENGTHS],
+    ) -> Call<'a> {
+        levels.fill(0);
         levels[1] = 1;
         levels[65] = 1;
         levels[81] = 1;
-        let mut steps = vec![in alloc; 10; STEPS]?;
+        steps.fill(10);
         steps[1] = 2;
-        let mut lengths = vec![in alloc; 0; LENGTHS]?;
+        lengths.fill(0);
         lengths[..256].copy_from_slice(&tables::k5());
-        Ok(Call {
+        Call {
             levels: Lent {
                 all: levels,
                 count: 128,
@@ -111,7 +118,7 @@ impl Call {
                 _ => [5, 7, 9],
             },
             keeps: 2,
-        })
+        }
     }
 
     /// The still, if all of it is there.
@@ -134,10 +141,10 @@ impl Call {
     // What stands at an index of a slice, or at a position of every block.
     fn change_at(&mut self, i: usize, word: Word) {
         match word.letter {
-            Some(b'l') => put(&mut self.levels.all, i, word.level()),
+            Some(b'l') => put(self.levels.all, i, word.level()),
             Some(b'p') => self.put_every(64, i, word.level()),
-            Some(b's') => put(&mut self.steps.all, i, word.byte()),
-            Some(b'e') => put(&mut self.lengths.all, i, word.byte()),
+            Some(b's') => put(self.steps.all, i, word.byte()),
+            Some(b'e') => put(self.lengths.all, i, word.byte()),
             _ => put(&mut self.keep, i, word.value),
         }
     }

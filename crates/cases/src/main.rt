@@ -15,16 +15,15 @@ mod call;
 mod tell;
 mod word;
 
-use std::alloc::Global;
 use std::io;
 
 // A line with no newline behind it is no case yet.
-fn tell_all(rt: &impl Print, alloc: Global, cases: &[u8]) -> io::Result<()> {
+fn tell_all(rt: &impl Print, cases: &[u8]) -> io::Result<()> {
     for line in cases.split_inclusive(|c| *c == b'\n') {
         match line.strip_suffix(b"\n") {
             Some(case) => {
                 rt.write_all(case)?;
-                answer::tell(rt, alloc, case)?;
+                answer::tell(rt, case)?;
                 rt.write_all(b"\n")?;
             }
             None => rt.write_all(line)?,
@@ -36,5 +35,5 @@ fn tell_all(rt: &impl Print, alloc: Global, cases: &[u8]) -> io::Result<()> {
 fn main(rt: HostRuntime) -> io::Result<()> {
     let mut room = [0u8; 65536];
     let n = input::read_full(&mut rt.stdin(), &mut room)?;
-    tell_all(&rt, rt.alloc(), &room[..n])
+    tell_all(&rt, &room[..n])
 }

@@ -1,4 +1,4 @@
--- One turn of a scan, by cost alone and by cost and bits: no public contract speaks of it.
+-- One turn of a scan, by cost alone and by cost and bits: what `Quick::met` and `Exact::met` promise.
 use Rattle.std.specs.Prelude.{◌≡◌, ℕ, ◌≤◌, ◌<◌}
 use Rattle.forward.specs.declared.first.Quick.{Quick}
 use Rattle.forward.specs.declared.first.Rank.{Rank}

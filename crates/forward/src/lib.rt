@@ -1,11 +1,12 @@
 //! The best choice of a gathered block, forward: at each level that is not 0 the best choice that ends there.
 #![tactic(auto)]
 
-mod first;
+pub mod first;
 pub mod level;
 pub mod nodes;
 pub mod table;
 
+pub use first::{Exact, Quick, Rank};
 pub use level::{Gathered, Level};
 pub use nodes::Nodes;
 use price::{Bits, Error};

@@ -67,11 +67,13 @@ pub struct Nodes {
 
 impl Nodes {
     ghost use Rattle.forward.specs.Given.{cut, Job, Decided};
-    ghost use Rattle.forward.specs.Nodes.{put};
+    ghost use Rattle.forward.specs.Nodes.{no_nodes, put};
     ghost use Rattle.forward.specs.Scanning.{cost_by, bit_by, Reach, Earliest, EarliestAlone, cost_from, Behind, Beaten, Forgetting, Forgot, Filled, Backed, Walks};
 
     /// Room for any block.
-    pub fn new() -> Nodes {
+    pub fn new() -> Nodes
+        ensures { result ≡ no_nodes }
+    {
         Nodes {
             place: [0; 64],
             cost: [0; 64],

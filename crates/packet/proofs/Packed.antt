@@ -2,19 +2,22 @@
 -- Assumes nothing.
 use mathlib.Core.Path.{◌≡◌, refl, sym, ap, ◌∙◌}
 use Rattle.std.specs.Prelude.{◌≢◌}
-use mathlib.Core.Bool.{true, false}
+use mathlib.Core.Bool.{Bool, true, false}
 use mathlib.Core.List.{List}
 use Prim.Native.Nat.{ℕ, zero, suc, ◌+◌, ◌-◌, ◌*◌, ◌≤◌, ◌<◌}
 use native.Mathlib.Nat.{mul-suc}
 use native.Mathlib.Omega.{arith}
+use lib.Dec.{ltb}
 use lib.IntN.{pos, negsuc, ◌-ℤ◌}
-use lib.ListN.{length, get_or, length-map, get_or-map}
-use borrow.Author.Tests.{le-leb, lt-leb, eq-eqb, ne_eqb, lt-ltb}
+use lib.ListN.{length, get_or, take, drop, length-map, get_or-map}
+use lib.Signed.{mag}
+use borrow.Author.Tests.{le-leb, lt-leb, eq-eqb, ne_eqb, lt-ltb, ltb-true, ltb-false}
 use mir.Syntax.{w8}
 use mir.Val.{Fits}
+use Rattle.block.specs.First.{pick}
 use Rattle.answers.specs.Said.{fine, refuse}
 use Rattle.packet.specs.Packet.{field, fields, steps_at, lengths_at, levels_at, twos_complement, packed_version, packed_blocks, packed_steps, packed_lengths, packed_levels, well_packed, packet_verdict}
-use Rattle.packet.proofs.Window.{byte_is_field}
+use Rattle.packet.proofs.Window.{byte_is_field, field_below, field-slice}
 
 fields_long : (bytes : List ℕ) (at w n : ℕ) → length (fields bytes at w n) ≡ n
 unfolding fields
@@ -30,6 +33,15 @@ fields_at bytes at w (suc n) (suc i) h = fields_at bytes (at + w) w n i (omega a
 -- a number of twelve bits from 2,048 on, less 4,096
 pub negative : (n : ℕ) → n < 4096 → pos n -ℤ pos 4096 ≡ negsuc (4095 - n)
 negative n h = simp (lt-ltb n 4096 h) (ap negsuc (omega arith))
+
+-- from -2,048 to 2,047: `mag` takes -1 for 0, -2 for 1 and so on
+complement_within : (n : ℕ) → n < 4096 → mag (twos_complement n) < 2048
+unfolding twos_complement
+complement_within n h = go (ltb n 2048) refl
+  where
+    go : (b : Bool) → ltb n 2048 ≡ b → mag (pick b (pos n) (pos n -ℤ pos 4096)) < 2048
+    go true e = ltb-true n 2048 e
+    go false e = rw (negative n h) (omega (arith, ltb-false n 2048 e))
 
 module _ (packet : List ℕ) where
   pub blocks_least : 1 ≤ packed_blocks packet
@@ -59,6 +71,14 @@ module _ (packet : List ℕ) where
   pub levels_at_lem : (i : ℕ) → i < 64 * packed_blocks packet → get_or (packed_levels packet) i (pos 0) ≡ twos_complement (field packet (levels_at + 12 * i) 12)
   unfolding packed_levels twos_complement
   levels_at_lem i h = get_or-map twos_complement (fields packet levels_at 12 (64 * packed_blocks packet)) i 0 ∙ ap twos_complement (fields_at packet levels_at 12 (64 * packed_blocks packet) i h)
+
+  -- level i out of the n bytes from byte k on
+  pub level-slice : (i k n at : ℕ) → i < 64 * packed_blocks packet → 8 * k + at ≡ levels_at + 12 * i → at + 12 ≤ 8 * n
+      → twos_complement (field (take n (drop k packet)) at 12) ≡ get_or (packed_levels packet) i (pos 0)
+  level-slice i k n at h e w = ap twos_complement (field-slice packet k n at 12 w ∙ ap (λ (a : ℕ). field packet a 12) e) ∙ sym (levels_at_lem i h)
+
+  pub levels_within : (i : ℕ) → i < 64 * packed_blocks packet → mag (get_or (packed_levels packet) i (pos 0)) < 2048
+  levels_within i h = rw (levels_at_lem i h) (complement_within (field packet (levels_at + 12 * i) 12) (field_below packet (levels_at + 12 * i) 12))
 
   pub accepted : well_packed packet ≡ true → packet_verdict packet ≡ fine
   unfolding packet_verdict

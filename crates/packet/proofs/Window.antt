@@ -1,16 +1,17 @@
 -- A field that lies within two bytes is cut out of them by a shift and a remainder: both grow by one bit at a time.
 -- Assumes nothing.
-use mathlib.Core.Path.{◌≡◌, sym, ap, ap₂, ◌∙◌}
+use mathlib.Core.Path.{◌≡◌, refl, sym, ap, ap₂, ◌∙◌}
 use mathlib.Core.List.{List}
 use Prim.Native.Nat.{ℕ, zero, suc, ◌+◌, ◌-◌, ◌*◌, ◌/◌, ◌%◌, ◌^◌, ◌≤◌, ◌<◌}
-use native.Mathlib.Nat.{mod-one, mod-eq_of_lt}
+use native.Mathlib.Nat.{mod-one, mod-lt, mod-eq_of_lt, pow-suc}
 use native.Mathlib.Numerals.{add-one}
 use native.Mathlib.Decide.{dec_le}
 use native.Mathlib.Omega.{arith}
-use lib.ListN.{get_or}
+use lib.ListN.{get_or, take, drop}
 use lib.Pow as pow
 use mir.Syntax.{w8}
 use mir.Val.{Fits}
+use Rattle.std.proofs.lemmas.List.{get_or-take, get_or-drop}
 use Rattle.packet.specs.Packet.{bit_of, field}
 
 -- a bit of the lower byte of two
@@ -65,3 +66,26 @@ module _ (bytes : List ℕ) (known : (i : ℕ) → Fits w8 (get_or bytes i 0)) w
       let r : 16 - (at % 8 + 8) ≡ 8 = omega arith in
       let m : window k / 2 ^ 8 % 2 ^ 8 ≡ field bytes at 8 = rw (p, r) at (window_is_field at 8 (omega arith)) in
       sym (ap (λ (x : ℕ). x % 256) (pow.high (get_or bytes k 0) 8 (known (k + 1)).fits) ∙ mod-eq_of_lt (known k).fits) ∙ m
+
+-- a field is below the power of its width
+pub field_below : (bytes : List ℕ) (at w : ℕ) → field bytes at w < 2 ^ w
+unfolding field bit_of
+field_below bytes at zero = omega arith
+field_below bytes at (suc w) =
+    rw pow-suc (omega (arith, field_below bytes at w, mod-lt (get_or bytes ((at + w) / 8) 0 / 2 ^ (7 - (at + w) % 8)) {m = 2} (omega arith)))
+
+module _ (bytes : List ℕ) (k n : ℕ) where
+  bit_of-slice : (j : ℕ) → j < 8 * n → bit_of (take n (drop k bytes)) j ≡ bit_of bytes (8 * k + j)
+  unfolding bit_of
+  bit_of-slice j h =
+      let p : (8 * k + j) / 8 ≡ k + j / 8 = omega arith in
+      let r : (8 * k + j) % 8 ≡ j % 8 = omega arith in
+      rw (p, r) (ap (λ (x : ℕ). x / 2 ^ (7 - j % 8) % 2) (get_or-take n (drop k bytes) (j / 8) 0 (omega arith) ∙ get_or-drop k bytes (j / 8) 0))
+
+  -- a field of n bytes from byte k on
+  pub field-slice : (at w : ℕ) → at + w ≤ 8 * n → field (take n (drop k bytes)) at w ≡ field bytes (8 * k + at) w
+  unfolding field
+  field-slice at zero h = refl
+  field-slice at (suc w) h =
+      let e : 8 * k + (at + w) ≡ 8 * k + at + w = omega arith in
+      ap₂ (λ (x y : ℕ). x * 2 + y) (field-slice at w (omega arith)) (bit_of-slice (at + w) (omega arith) ∙ ap (bit_of bytes) e)

@@ -77,8 +77,11 @@ impl<'a> Packet<'a> {
         ensures { result.now ≡ packed_levels self.now.bytes.now }
     {
         let levels = &mut room[..64 * self.blocks()];
-        for (i, level) in levels.iter_mut().enumerate() {
-            *level = level_of(field(self.bytes, LEVELS_AT + 12 * i, 12));
+        // Two a turn: they fill three bytes, so that each is cut out of its bytes in a fixed way.
+        for i in 0..levels.len() / 2 {
+            let three = &self.bytes[LEVELS_AT / 8 + 3 * i..LEVELS_AT / 8 + 3 * i + 3];
+            levels[2 * i] = level_of(field(three, 0, 12));
+            levels[2 * i + 1] = level_of(field(three, 12, 12));
         }
         levels
     }

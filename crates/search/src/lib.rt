@@ -1,6 +1,8 @@
 //! The search for the best choices of a still's blocks.
 #![tactic(auto)]
 
+ghost use Rattle.std.specs.Prelude.{ℕ, ◌+◌, ◌*◌, ◌≤◌, ◌<◌, get_or};
+ghost use Rattle.forward.specs.declared.table.TheConstants.{NO};
 ghost use Rattle.forward.specs.Bits.{BitsOf};
 ghost use Rattle.search.specs.Props.{bits_of_prop};
 ghost use Rattle.search.specs.Tabling.{len_in};
@@ -23,6 +25,7 @@ pub struct Search<'a> {
     gathered: Gathered,
     nodes: Nodes,
     ghost made: { BitsOf (len_in still) table.bits } by { bits_of_prop (len_in still) table.bits },
+    ghost unused: { (s : ℕ) → 0 < s → s ≤ 10 → get_or table.bits (s * 64 + 63) 0 < NO },
 }
 
 impl<'a> Search<'a> {

@@ -3,7 +3,8 @@
 ghost use Rattle.std.specs.Prelude.{◌≡◌, ℕ, ◌+◌, ◌*◌, ◌≤◌, ◌<◌, get_or};
 ghost use Rattle.block.specs.Block.{LevelCode, level_bits};
 ghost use Rattle.forward.specs.Bits.{BitsOf};
-ghost use Rattle.search.specs.Tabling.{len_in, IsEntry, Filled, RowSwept, Swept};
+ghost use Rattle.forward.specs.declared.table.TheConstants.{NO};
+ghost use Rattle.search.specs.Tabling.{len_in, IsEntry, Filled, RowSwept, Swept, ExactMargins};
 
 use forward::{LEAST, NO, SAVED, Table};
 use still::Still;
@@ -42,11 +43,13 @@ fn level_bits(still: &Still, run: usize, size: usize) -> Option<u64>
     Some((run / 16) as u64 * zeros + code + size as u64)
 }
 
-/// Fills the table but for its margins: an end of block everywhere, and over that each level after each run.
+/// Fills the table but for its margins: an end of block behind each position, each level after each run, and 0 where no run
+/// reaches.
 fn fill(still: &Still, bits: &mut [u64; 704])
     ensures { Filled (len_in still.now) bits.new 11 0 }
 {
-    bits.fill(code_length(still, 0).unwrap_or(NO));
+    bits.fill(0);
+    bits[..64].fill(code_length(still, 0).unwrap_or(NO));
     // Behind position 63 there is no end of block.
     bits[0] = 0;
     for size in 1..11 {
@@ -93,9 +96,11 @@ impl Margins {
     }
 }
 
-/// The table of bits of a still.
+/// The table of bits of a still. The entries that no run reaches, the margins among them, mark no code as missing.
 pub fn table_of(still: &Still) -> Table
-    ensures { BitsOf (len_in still.now) result.bits }
+    ensures bits { BitsOf (len_in still.now) result.bits }
+    ensures unused { (s : ℕ) → 0 < s → s ≤ 10 → get_or result.bits (s * 64 + 63) 0 < NO }
+    ensures margins { ExactMargins result.bits }
 {
     let mut bits = [0; 704];
     fill(still, &mut bits);

@@ -1,6 +1,6 @@
 //! A tournament of contestants of which one of any two wins.
 ghost use Rattle.std.specs.Prelude.{◌≡◌, ◌*◌, ◌<◌, ◌≤◌, length, slice_index, MatchBool};
-ghost use Rattle.steepest.specs.Tournament.{IsWinner, IsTournament, IsStale, IsTop};
+ghost use Rattle.steepest.specs.Tournament.{WinsAt, IsWinner, IsTournament, IsStale, IsTop};
 
 /// Who can meet in a tournament. Of two contestants one wins over the other, or each does; and who wins over a contestant
 /// wins over all that it wins over.
@@ -9,7 +9,7 @@ pub trait Contest: Copy {
 
     /// Whether the other wins, and this one does not.
     fn is_below(&self, other: &Self) -> bool
-        ensures { MatchBool result (wins other.now self.now) (wins self.now other.now) };
+        ensures { MatchBool result (wins other.now self.now × ¬ wins self.now other.now) (wins self.now other.now) };
 
     ghost reflexive: { (x : Self) → wins x x };
 
@@ -20,7 +20,8 @@ pub trait Contest: Copy {
 fn winner<W: Contest>(ways: &[W], x: usize, y: usize) -> usize
     requires x_in { x < length ways.now }
     requires y_in { y < length ways.now }
-    ensures { IsWinner W.wins ways.now x y result }
+    ensures winner { IsWinner W.wins ways.now x y result }
+    ensures first { WinsAt W.wins ways.now x y → result ≡ x }
 {
     if ways[x].is_below(&ways[y]) { y } else { x }
 }

@@ -7,7 +7,7 @@ use Rattle.search.proofs.table.fill.Goals as goal
 pub loop-size-init : goal.loop-size-init
 loop-size-init c =
     filled_start c.args.still.now.sound.length_limits.most (rw (← c.unwrap_or.ensures) at (entry_of _ c.code_length.ensures)) c.told-bits
-    (c.fill.ensures.after (λ y e. e))
+    (c.fill.ensures.after (λ y e. e)) (c.fill-2.ensures.after (λ y e. e))
 
 pub loop-run-preserved : goal.loop-run-preserved
 loop-run-preserved c =

@@ -21,7 +21,7 @@ loop-k-preserved g c j from below =
     let left = c.loop-k.invariant (2 * k) (omega arith) (omega arith) in
     let right = c.loop-k.invariant (2 * k + 1) (omega arith) (omega arith) in
     node_made c.loop-k.seats k c.winner.result
-    (inner_made c.loop-k.seats k c.winner.result (omega arith) (omega arith) (omega arith) (one_of (λ (z : ℕ). z < n) left.within right.within c.winner.ensures) c.winner.ensures)
+    (inner_made c.loop-k.seats k c.winner.result (omega arith) (omega arith) (omega arith) (one_of (λ (z : ℕ). z < n) left.within right.within c.winner.ensures.winner) c.winner.ensures.winner)
     (λ other. (omega arith, omega arith, c.loop-k.invariant j (omega arith) below))
 
 pub returns-clause-tournament : goal.returns-clause-tournament

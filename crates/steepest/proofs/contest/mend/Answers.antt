@@ -25,5 +25,5 @@ loop-at-preserved g c =
       some = omega arith;
       below = omega arith;
       best_is = get_or-set_same c.loop-at.seats (c.loop-at.at / 2) c.winner-best.result 0 (omega arith);
-      mending = mending_step now.mending (omega arith) now.below (rw now.best_is c.winner-best.ensures);
+      mending = mending_step now.mending (omega arith) now.below (rw now.best_is c.winner-best.ensures.winner);
     }
